@@ -1,26 +1,25 @@
-use mathlib.Core.Path.{_≡_, refl, sym, ap, _∙_}
+use mathlib.Core.Path.{_≡_, sym, ap, _∙_}
 use mathlib.Core.List.{map}
 use Prim.Native.Nat.{_*_}
 use native.Mathlib.Omega.{arith}
 use lib.ListN.{length, drop}
-use borrow.Author.Needs.{needs}
 use Rattle.std.specs.Of.Vec.{vec-len}
 use Rattle.std.proofs.shelf.Lists.{take-at}
 use Rattle.std.proofs.shelf.Results.{err-from-errBy}
 use Rattle.linear.specs.Linear.{circulant, grid}
-use Rattle.fold.proofs.Foldings.{same-error, column-expands}
-use Rattle.fold.proofs.fold.Needs as need
+use Rattle.folding.proofs.Foldings.{column-expands}
+use Rattle.folding.proofs.fold.Needs as need
 
 pub returns-in-Break-sheet : need.returns-in-Break-sheet
 returns-in-Break-sheet g c =
     let p = err-from-errBy (c .from-residual .result) (c .from-residual .ensures .1) in
-    rw (p .1, p .2) (record { folds = same-error (g .F·Field .ring) (g .F·Field .value) (c .args .bytes .now) _ (c .in-Break-sheet .ensures tt .reads); wide = tt })
+    rw (p .1, p .2) (c .in-Break-sheet .ensures tt .reads)
 
 pub returns-in-Break-matrix : need.returns-in-Break-matrix
 returns-in-Break-matrix g c =
     let p = err-from-errBy (c .from-residual-in-Break-matrix .result) (c .from-residual-in-Break-matrix .ensures .1) in
     let r = c .in-Continue-sheet .ensures tt .reads in
-    rw (p .1, p .2) (record { folds = (r .0, r .1); wide = tt })
+    rw (p .1, p .2) (r .0, r .1)
 
 pub returns-in-Break-circulant-to-dense : need.returns-in-Break-circulant-to-dense
 returns-in-Break-circulant-to-dense g c =
@@ -33,19 +32,11 @@ returns-in-Break-circulant-to-dense g c =
 pub returns : need.returns
 returns g c =
     let s = c .in-Continue-sheet .ensures tt in
-    let n = c .in-Continue-sheet .sheet .width in
-    let holds = s .reads .2 in
     let dense = c .circulant-to-dense .last .dense in
     let kept : length dense ≡ vec-len (c .in-Continue-matrix .matrix) = c .circulant-to-dense .kept .dense ∙ c .as-mut-slice .ensures .len in
-    let long = c .as-slice .ensures .len ∙ s .shape .square ∙ holds .width in
-    let column = c .as-slice .ensures .value ∙ holds .column in
-    record {
-      folds = (
-        s .reads .0,
-        s .reads .1,
-        holds .width,
-        ap (map (g .F·Field .value)) (take-at dense (drop (length dense) (c .in-Continue-matrix .matrix .items)) (c .in-Continue-matrix .matrix .len) kept)
-            ∙ c .in-Continue-circulant-to-dense .ensures tt .1 ∙ (λ i. grid (long i) (long i) (circulant (g .F·Field .ring) (column i))),
-      );
-      wide = omega (arith, s .shape .width-least);
-    }
+    let long = c .as-slice .ensures .len ∙ s .shape .square in
+    let column = c .as-slice .ensures .value in (
+      s .reads,
+      ap (map (g .F·Field .value)) (take-at dense (drop (length dense) (c .in-Continue-matrix .matrix .items)) (c .in-Continue-matrix .matrix .len) kept)
+          ∙ c .in-Continue-circulant-to-dense .ensures tt .1 ∙ (λ i. grid (long i) (long i) (circulant (g .F·Field .ring) (column i))),
+    )

@@ -1,0 +1,16 @@
+-- A sheet's column is never refused.
+use mathlib.Core.Path.{_≡_}
+use Prim.Native.Nat.{ℕ, _*_, _≤_}
+use native.Mathlib.Omega.{arith}
+use borrow.Author.Tests.{le-leb, eq-eqb}
+use Rattle.std.specs.declared.option.Option.the-variants.{Some, None}
+use Rattle.field.specs.declared.refusal.Refusal.{Refusal}
+use Rattle.poseidon1.specs.Checks.{expansion-refused}
+
+pub column-expands : (n m : ℕ) (q : Refusal) → 2 ≤ n → n ≤ 24 → m ≡ n * n → expansion-refused n m ≡ Some q → ⊥
+column-expands n m q low high e h =
+    let a = le-leb 2 n low in
+    let b = le-leb n 24 high in
+    let c = eq-eqb m (n * n) e in
+    let none : expansion-refused n m ≡ None = rw (a, b, c) in
+    absurd (grind arith)
