@@ -1,11 +1,11 @@
 ghost use Rattle.folding.specs.Answers.{Folds};
 use field::Field;
 use poseidon1::utils::circulant_to_dense;
+use sheet::Sheet;
 use sheet::error::SheetError;
 use sheet::error::SheetErrorFromAlloc;
 use sheet::error::SheetErrorFromRefusal;
 use sheet::read_sheet;
-use sheet::Sheet;
 use std::alloc::Global;
 
 pub mod columns;

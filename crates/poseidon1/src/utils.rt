@@ -5,8 +5,8 @@ ghost use Rattle.std.specs.Results.{Cases};
 ghost use Rattle.std.specs.declared.option.Option.the-variants.{Some, None};
 ghost use Rattle.linear.specs.Linear.{circulant, grid};
 ghost use Rattle.poseidon1.specs.Checks.{expansion-refused};
-use field::refusal::Refusal;
 use field::Field;
+use field::refusal::Refusal;
 
 // Writes the circulant matrix whose first column is `column` into `dense`, row by row.
 pub fn circulant_to_dense<F: Field>(column: &[i64], dense: &mut [F]) -> Result<(), Refusal>

@@ -7,9 +7,9 @@ ghost use Rattle.std.specs.declared.option.Option.the-variants.{Some, None};
 ghost use Rattle.std.specs.declared.result.Result.the-variants.{Err};
 ghost use Rattle.sheet.specs.Forms.{Checked};
 ghost use Rattle.sheet.specs.Sheets.{size-at, size-refused, sheet-of};
+use crate::MAX_WIDTH;
 use crate::line::read_line;
 use crate::rounds::check_rounds;
-use crate::MAX_WIDTH;
 use field::refusal::Refusal;
 
 #[derive(Clone, Copy)]

@@ -7,9 +7,9 @@ use error::SheetError;
 use error::SheetErrorFromAlloc;
 use error::SheetErrorFromRefusal;
 use field::Field;
-use form::check_form;
 use form::Form;
 use form::Sizes;
+use form::check_form;
 use rounds::read_rounds;
 use std::alloc::Global;
 

@@ -4,7 +4,6 @@ use Prim.Native.Nat.{ℕ, Fin}
 use Rattle.worked.proofs.Values.{worked-values}
 use Rattle.worked.proofs.worked_values.Needs as need
 
-
 pub returns : need.returns
 returns c =
     let a = c .as-canonical-u32 .ensures .value ∙ ap (λ (w : Fin 17). w .0) (c .from-i64 .ensures ∙ worked-values .from-minus-one) in
