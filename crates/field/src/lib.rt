@@ -5,6 +5,7 @@ ghost use Rattle.ring.specs.Rings.{RingOn, integer};
 
 pub mod refusal;
 pub mod residue;
+pub mod sizes;
 
 // Elements that mean values of a commutative ring in which one differs from zero.
 // Laws and contracts speak of the values, so several elements may mean one value.

@@ -6,7 +6,7 @@ use Prim.Native.Nat.{ℕ, zero, suc, _+_, _*_, _-_, _<_, _≤_}
 use native.Mathlib.Omega.{arith}
 use lib.ListN.{length, take, drop, getD, length-append}
 use lib.Dec.{leb, eqb}
-use lib.IntN.{ℤ, pos, natAbs}
+use lib.IntN.{ℤ, pos}
 use borrow.Author.Tests.{eq-eqb, ne-eqb, eqb-true}
 use Rattle.std.proofs.shelf.Lists.{take-append-drop, take-at, length-take, length-drop, drop-drop}
 use Rattle.std.proofs.shelf.Ways.{tells}
@@ -182,9 +182,9 @@ cut-sheet xs =
     ∙ (elim (line-at 3 xs) as (λ o. line-at 3 xs ≡ o → headed o later ≡ headed o later′) [
       | None ↦ λ e. refl
       | Some zs ↦ λ e.
-          let n = natAbs (size-at zs 0) in
-          let f = natAbs (size-at zs 1) in
-          let p = natAbs (size-at zs 2) in
+          let n = size-at zs 0 in
+          let f = size-at zs 1 in
+          let p = size-at zs 2 in
           let c = cut-rest 3 xs zs e in
           let d : drop 2 ls ≡ drop 1 (lines (drop 34 xs)) = sym (drop-drop 1 1 ls) ∙ ap (drop 1) c in
           ap (sized (size-refused zs)) ((λ t. with-column n f p (line-of n (c t)) (rows n (f + p) 3 (d t))) ∙ cut-column n f p (drop 34 xs))

@@ -6,7 +6,7 @@ use native.Mathlib.Omega.{arith}
 use Rattle.std.specs.Results.{isOk}
 use Prim.Native.Nat.{ℕ, _+_, _*_}
 use lib.ListN.{take, drop}
-use lib.IntN.{ℤ, natAbs}
+use lib.IntN.{ℤ}
 use Rattle.std.specs.declared.option.Option.{Option}
 use Rattle.std.specs.declared.option.Option.the-variants.{Some, None}
 use Rattle.std.specs.declared.result.Result.{Result}
@@ -29,13 +29,13 @@ at-first xs e = cut-sheet xs ∙ ap (λ o. headed o (later (drop 34 xs))) e
 pub at-size : (xs : List ℕ) (zs : List ℤ) (q : Refusal) → line-at 3 xs ≡ Some zs → size-refused zs ≡ Some q → of-lines (lines xs) ≡ Err q
 at-size xs zs q e h =
     cut-sheet xs ∙ ap (λ o. headed o (later (drop 34 xs))) e
-    ∙ ap (λ o. sized o (later (drop 34 xs) (natAbs (size-at zs 0)) (natAbs (size-at zs 1)) (natAbs (size-at zs 2)))) h
+    ∙ ap (λ o. sized o (later (drop 34 xs) (size-at zs 0) (size-at zs 1) (size-at zs 2))) h
 
 -- past the sizes
-pub at-body : (xs : List ℕ) (zs : List ℤ) (n f p : ℕ) (rest : List ℕ) → line-at 3 xs ≡ Some zs → size-refused zs ≡ None → n ≡ natAbs (size-at zs 0) → f ≡ natAbs (size-at zs 1) → p ≡ natAbs (size-at zs 2) → rest ≡ drop 34 xs → of-lines (lines xs) ≡ later rest n f p
+pub at-body : (xs : List ℕ) (zs : List ℤ) (n f p : ℕ) (rest : List ℕ) → line-at 3 xs ≡ Some zs → size-refused zs ≡ None → n ≡ size-at zs 0 → f ≡ size-at zs 1 → p ≡ size-at zs 2 → rest ≡ drop 34 xs → of-lines (lines xs) ≡ later rest n f p
 at-body xs zs n f p rest e h n-is f-is p-is r-is =
     cut-sheet xs ∙ ap (λ o. headed o (later (drop 34 xs))) e
-    ∙ ap (λ o. sized o (later (drop 34 xs) (natAbs (size-at zs 0)) (natAbs (size-at zs 1)) (natAbs (size-at zs 2)))) h
+    ∙ ap (λ o. sized o (later (drop 34 xs) (size-at zs 0) (size-at zs 1) (size-at zs 2))) h
     ∙ (λ t. later (sym r-is t) (sym n-is t) (sym f-is t) (sym p-is t))
 
 pub at-column : (rest : List ℕ) (n f p : ℕ) → line-at n rest ≡ None → later rest n f p ≡ Err (Line 2)

@@ -2,12 +2,11 @@
 use mathlib.Core.Path.{_≡_, refl, sym, ap, _∙_, subst}
 use mathlib.Core.Bool.{Bool, true, false, cond, _&&_}
 use mathlib.Core.List.{List, [], _∷_, _++_, map, append-assoc}
-use Prim.Native.Nat.{ℕ, zero, suc, _+_, _≤_}
+use Prim.Native.Nat.{ℕ, zero, suc, _+_, _<_}
 use native.Mathlib.Omega.{arith}
 use lib.ListN.{length, take, drop}
-use lib.IntN.{ℤ, pos, negsuc, natAbs}
-use lib.Dec.{eqb, leb}
-use borrow.Author.Tests.{le-leb}
+use lib.IntN.{ℤ, pos, negsuc}
+use lib.Dec.{eqb}
 use Rattle.std.proofs.shelf.Lists.{take-append-drop, take-at, drop-at, map-append}
 use Rattle.std.proofs.shelf.Ways.{tells}
 use Rattle.std.specs.declared.option.Option.{Option}
@@ -16,11 +15,12 @@ use Rattle.std.specs.declared.result.Result.{Result}
 use Rattle.std.specs.declared.result.Result.the-variants.{Ok, Err}
 use Rattle.field.specs.declared.refusal.Refusal.{Refusal}
 use Rattle.sheet.specs.Grammar.{field-value, both, end-of-line, line-values, lines}
-use Rattle.sheet.specs.Sheets.{Parameters, Shaped, within, size-at, size-refused, and-then, ahead, line-of, rows, with-column, sized, headed, of-lines}
+use Rattle.sheet.specs.Sheets.{Parameters, natural, size-at, size-refused, and-then, ahead, line-of, rows, with-column, sized, headed, of-lines}
 use Rattle.sheet.specs.Layout.{glued, Say, LineSays, LinesSay, SheetSays, Grammar-holds}
 use Rattle.sheet.proofs.Fields.{fields-written}
 use Rattle.sheet.proofs.Cuts.{given, line-lines, glue-lines}
-use Rattle.sheet.proofs.Shapes.{line-length, sizes-within, shaped}
+use Rattle.sheet.proofs.Shapes.{line-length, shaped}
+use Rattle.field.proofs.Bounds.{admitted, not-refused}
 
 -- a line that is read is laid out of fields
 say-line : (k : ℕ) (l : List ℕ) (zs : List ℤ) → line-values k l ≡ Some zs → LineSays l zs
@@ -92,18 +92,21 @@ lines-say k [] (r ∷ rs) s = absurd s
 lines-say k (l ∷ ls) [] s = absurd s
 lines-say k (l ∷ ls) (r ∷ rs) s = line-lines k l (glued ls) (ap given (line-says k l r (s .0) (s .1))) .0 ∙ ap (λ x. l ∷ x) (lines-say k ls rs (s .2))
 
-whole : (least most : ℕ) (z : ℤ) → within least most z ≡ true → z ≡ pos (natAbs z)
-whole least most (pos n) h = refl
-whole least most (negsuc n) h = absurd (grind arith)
+whole : (z : ℤ) → 0 < natural z → z ≡ pos (natural z)
+whole (pos n) h = refl
+whole (negsuc n) h = absurd (omega arith)
 
-three : (zs : List ℤ) → length zs ≡ 3 → size-refused zs ≡ None → zs ≡ pos (natAbs (size-at zs 0)) ∷ pos (natAbs (size-at zs 1)) ∷ pos (natAbs (size-at zs 2)) ∷ []
+three : (zs : List ℤ) → length zs ≡ 3 → size-refused zs ≡ None → zs ≡ pos (size-at zs 0) ∷ pos (size-at zs 1) ∷ pos (size-at zs 2) ∷ []
 three [] e h = absurd (omega arith)
 three (a ∷ []) e h = absurd (omega arith)
 three (a ∷ b ∷ []) e h = absurd (omega arith)
 three (a ∷ b ∷ c ∷ d ∷ zs) e h = absurd (omega arith)
 three (a ∷ b ∷ c ∷ []) e h =
-    let w = sizes-within (within 2 24 a) (within 6 32 b) (within 1 128 c) _ _ _ h in
-    (λ i. whole 2 24 a (w .0) i ∷ whole 6 32 b (w .1) i ∷ whole 1 128 c (w .2) i ∷ [])
+    let w = admitted (natural a) (natural b) (natural c) h in
+    let x = whole a (omega (arith, w .width-least)) in
+    let y = whole b (omega (arith, w .full-least)) in
+    let z = whole c (omega (arith, w .partial-least)) in
+    (λ i. x i ∷ y i ∷ z i ∷ [])
 
 says-of : (bs : List ℕ) (m : Parameters) (ls : List (List ℕ)) → glued ls ≡ bs → of-lines ls ≡ Ok m → SheetSays bs m
 says-of bs m [] b e = absurd (grind arith)
@@ -112,7 +115,7 @@ says-of bs m (l ∷ []) b e =
     elim (line-values 3 l) as (λ o. headed o later ≡ Ok m → SheetSays bs m) [
       | None ↦ λ h. absurd (grind arith)
       | Some zs ↦ λ h.
-          elim (size-refused zs) as (λ o. sized o (later (natAbs (size-at zs 0)) (natAbs (size-at zs 1)) (natAbs (size-at zs 2))) ≡ Ok m → SheetSays bs m) [
+          elim (size-refused zs) as (λ o. sized o (later (size-at zs 0) (size-at zs 1) (size-at zs 2)) ≡ Ok m → SheetSays bs m) [
             | Some q ↦ λ j. absurd (grind arith)
             | None ↦ λ j. absurd (grind arith)
           ] h
@@ -122,9 +125,9 @@ says-of bs m (l ∷ k ∷ ls) b e =
     elim (line-values 3 l) as (λ o. line-values 3 l ≡ o → headed o later ≡ Ok m → SheetSays bs m) [
       | None ↦ λ p h. absurd (grind arith)
       | Some zs ↦ λ header h.
-          let n = natAbs (size-at zs 0) in
-          let f = natAbs (size-at zs 1) in
-          let p = natAbs (size-at zs 2) in
+          let n = size-at zs 0 in
+          let f = size-at zs 1 in
+          let p = size-at zs 2 in
           elim (size-refused zs) as (λ o. size-refused zs ≡ o → sized o (later n f p) ≡ Ok m → SheetSays bs m) [
             | Some q ↦ λ i j. absurd (grind arith)
             | None ↦ λ i j.
@@ -154,9 +157,6 @@ says-of bs m (l ∷ k ∷ ls) b e =
           ] refl h
     ] refl e
 
-sizes-fit : (n f p : ℕ) → 2 ≤ n → n ≤ 24 → 6 ≤ f → f ≤ 32 → 1 ≤ p → p ≤ 128 → size-refused (pos n ∷ pos f ∷ pos p ∷ []) ≡ None
-sizes-fit n f p a b c d e h = rw (le-leb 2 n a, le-leb n 24 b, le-leb 6 f c, le-leb f 32 d, le-leb 1 p e, le-leb p 128 h)
-
 is-of : (bs : List ℕ) (m : Parameters) → SheetSays bs m → of-lines (lines bs) ≡ Ok m
 is-of bs m w =
     let n = m .width in
@@ -167,7 +167,7 @@ is-of bs m w =
     let cut : lines bs ≡ w .first ∷ w .second ∷ w .later = ap lines (w .text) ∙ line-lines 3 (w .first) (w .second ++ glued (w .later)) (ap given a) .0
     ∙ ap (λ x. w .first ∷ x) (line-lines n (w .second) (glued (w .later)) (ap given b) .0 ∙ ap (λ x. w .second ∷ x) (lines-say n (w .later) (w .rounds) (w .rows))) in
     let later : ℕ → ℕ → ℕ → Result Parameters Refusal = λ n f p. with-column n f p (line-values n (w .second)) (rows n (f + p) 3 (w .later)) in
-    let fit = sizes-fit n f p (w .shape .width-least) (w .shape .width-most) (w .shape .full-least) (w .shape .full-most) (w .shape .partial-least) (w .shape .partial-most) in
+    let fit = not-refused n f p (w .shape .sizes) in
     let r : rows n (f + p) 3 (w .later) ≡ Ok (m .constants) = ap (λ c. rows n c 3 (w .later)) (sym (w .count)) ∙ rows-say n 3 (w .later) (w .rounds) (w .rows) ∙ ap Ok (sym (w .elements)) in
     ap (of-lines) cut ∙ ap (λ o. headed o later) a ∙ ap (λ o. sized o (later n f p)) fit ∙ (λ t. with-column n f p (b t) (r t))
 

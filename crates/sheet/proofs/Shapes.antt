@@ -6,7 +6,8 @@ use Prim.Native.Nat.{ℕ, zero, suc, _+_, _*_, _≤_}
 use native.Mathlib.Omega.{arith}
 use native.Mathlib.Nat.{suc-mul, zero-mul}
 use lib.ListN.{length, take, drop, getD, length-append}
-use lib.IntN.{ℤ, pos, negsuc, natAbs}
+use lib.IntN.{ℤ}
+use Rattle.field.proofs.Bounds.{admitted}
 use lib.Dec.{eqb}
 use Rattle.std.proofs.shelf.Lists.{length-map}
 use Rattle.std.proofs.shelf.Ways.{tells}
@@ -17,7 +18,7 @@ use Rattle.std.specs.declared.result.Result.{Result}
 use Rattle.std.specs.declared.result.Result.the-variants.{Ok, Err}
 use Rattle.field.specs.declared.refusal.Refusal.{Refusal}
 use Rattle.sheet.specs.Grammar.{field-value, both, end-of-line, line-values}
-use Rattle.sheet.specs.Sheets.{Parameters, Shaped, within, size-at, size-refused, and-then, ahead, line-of, rows, with-column, sized, headed, of-lines}
+use Rattle.sheet.specs.Sheets.{Parameters, Well-shaped, size-at, size-refused, and-then, ahead, line-of, rows, with-column, sized, headed, of-lines}
 
 pub line-length : (k : ℕ) (l : List ℕ) (zs : List ℤ) → line-values k l ≡ Some zs → length zs ≡ k
 line-length zero [] zs e = absurd (grind arith)
@@ -52,44 +53,27 @@ rows-length k (suc m) i ls vs e =
           ] refl h
     ] refl e
 
-size-within : (least most : ℕ) (z : ℤ) → within least most z ≡ true → (least ≤ natAbs z) × (natAbs z ≤ most)
-size-within least most (pos n) h = (grind (arith, tells), grind (arith, tells))
-size-within least most (negsuc n) h = absurd (grind arith)
-
-pub sizes-within : (a b c : Bool) (p q r : Refusal) → cond a (cond b (cond c None (Some r)) (Some q)) (Some p) ≡ None → (a ≡ true) × (b ≡ true) × (c ≡ true)
-sizes-within true true true p q r h = (refl, refl, refl)
-sizes-within true true false p q r h = absurd (grind arith)
-sizes-within true false c p q r h = absurd (grind arith)
-sizes-within false b c p q r h = absurd (grind arith)
-
-abbrev Well : Parameters → Type 0
-Well m = Shaped (m .width) (m .full) (m .partial) (length (m .column)) (length (m .constants))
-
 -- every sheet has the sizes that its first line says
-pub shaped : (ls : List (List ℕ)) (m : Parameters) → of-lines ls ≡ Ok m → Shaped (m .width) (m .full) (m .partial) (length (m .column)) (length (m .constants))
+pub shaped : (ls : List (List ℕ)) (m : Parameters) → of-lines ls ≡ Ok m → Well-shaped m
 shaped ls m e =
     let later : ℕ → ℕ → ℕ → Result Parameters Refusal = λ n f p. with-column n f p (line-of n (drop 1 ls)) (rows n (f + p) 3 (drop 2 ls)) in
-    elim (line-of 3 ls) as (λ o. headed o later ≡ Ok m → Well m) [
+    elim (line-of 3 ls) as (λ o. headed o later ≡ Ok m → Well-shaped m) [
       | None ↦ λ h. absurd (grind arith)
       | Some zs ↦ λ h.
-          let n = natAbs (size-at zs 0) in
-          let f = natAbs (size-at zs 1) in
-          let p = natAbs (size-at zs 2) in
-          elim (size-refused zs) as (λ o. size-refused zs ≡ o → sized o (later n f p) ≡ Ok m → Well m) [
+          let n = size-at zs 0 in
+          let f = size-at zs 1 in
+          let p = size-at zs 2 in
+          elim (size-refused zs) as (λ o. size-refused zs ≡ o → sized o (later n f p) ≡ Ok m → Well-shaped m) [
             | Some q ↦ λ i j. absurd (grind arith)
             | None ↦ λ i j.
-                let w = sizes-within (within 2 24 (size-at zs 0)) (within 6 32 (size-at zs 1)) (within 1 128 (size-at zs 2)) _ _ _ i in
-                let wn = size-within 2 24 (size-at zs 0) (w .0) in
-                let wf = size-within 6 32 (size-at zs 1) (w .1) in
-                let wp = size-within 1 128 (size-at zs 2) (w .2) in
-                elim (line-of n (drop 1 ls)) as (λ o. line-of n (drop 1 ls) ≡ o → with-column n f p o (rows n (f + p) 3 (drop 2 ls)) ≡ Ok m → Well m) [
+                elim (line-of n (drop 1 ls)) as (λ o. line-of n (drop 1 ls) ≡ o → with-column n f p o (rows n (f + p) 3 (drop 2 ls)) ≡ Ok m → Well-shaped m) [
                   | None ↦ λ a b. absurd (grind arith)
                   | Some col ↦ λ a b.
-                      elim (rows n (f + p) 3 (drop 2 ls)) as (λ r. rows n (f + p) 3 (drop 2 ls) ≡ r → with-column n f p (Some col) r ≡ Ok m → Well m) [
+                      elim (rows n (f + p) 3 (drop 2 ls)) as (λ r. rows n (f + p) 3 (drop 2 ls) ≡ r → with-column n f p (Some col) r ≡ Ok m → Well-shaped m) [
                         | Err q ↦ λ c d. absurd (grind arith)
                         | Ok vs ↦ λ c d.
                             let same : record { width = n; full = f; partial = p; column = col; constants = vs } ≡ m = grind arith in
-                            subst Well same (record { width-least = wn .0; width-most = wn .1; full-least = wf .0; full-most = wf .1; partial-least = wp .0; partial-most = wp .1; square = line-of-length n (drop 1 ls) col a; rounds = rows-length n (f + p) 3 (drop 2 ls) vs c })
+                            subst Well-shaped same (record { sizes = admitted n f p i; square = line-of-length n (drop 1 ls) col a; rounds = rows-length n (f + p) 3 (drop 2 ls) vs c })
                       ] refl b
                 ] refl j
           ] refl h

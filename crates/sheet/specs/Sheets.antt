@@ -1,17 +1,16 @@
 -- What a sheet says, or why it is refused, line by line.
 use mathlib.Core.Path.{_≡_}
 use mathlib.Core.List.{List, [], _∷_, _++_}
-use mathlib.Core.Bool.{Bool, true, false, cond, _&&_}
-use Prim.Native.Nat.{ℕ, zero, suc, _+_, _*_, _≤_}
-use lib.IntN.{ℤ, pos, natAbs}
-use lib.Signed.{leZ}
+use Prim.Native.Nat.{ℕ, zero, suc, _+_, _*_}
+use lib.IntN.{ℤ, pos, negsuc}
 use lib.ListN.{length, drop, getD}
 use Rattle.std.specs.declared.option.Option.{Option}
 use Rattle.std.specs.declared.option.Option.the-variants.{Some, None}
 use Rattle.std.specs.declared.result.Result.{Result}
 use Rattle.std.specs.declared.result.Result.the-variants.{Ok, Err}
 use Rattle.field.specs.declared.refusal.Refusal.{Refusal}
-use Rattle.field.specs.declared.refusal.Refusal.the-variants.{Width, FullRounds, PartialRounds, Line}
+use Rattle.field.specs.declared.refusal.Refusal.the-variants.{Line}
+use Rattle.field.specs.Sizes.{sizes-refused, Admitted}
 use Rattle.sheet.specs.Grammar.{line-values, lines}
 
 -- the whole numbers that a sheet says; the constants are those of all rounds, one round after another
@@ -22,17 +21,17 @@ pub record Parameters : Type 0 where
   pub column : List ℤ
   pub constants : List ℤ
 
--- from least to most
-abbrev pub within : ℕ → ℕ → ℤ → Bool
-within least most z = leZ (pos least) z && leZ z (pos most)
+-- a size; a negative one counts as 0, which no size may be
+abbrev pub natural : ℤ → ℕ
+natural (pos n) = n
+natural (negsuc n) = 0
 
-abbrev pub size-at : List ℤ → ℕ → ℤ
-size-at zs i = getD zs i (pos 0)
+abbrev pub size-at : List ℤ → ℕ → ℕ
+size-at zs i = natural (getD zs i (pos 0))
 
--- the first of the three sizes that is out of its bounds
+-- the first of the three sizes of line 1 that is not admitted
 abbrev pub size-refused : List ℤ → Option Refusal
-size-refused zs =
-    cond (within 2 24 (size-at zs 0)) (cond (within 6 32 (size-at zs 1)) (cond (within 1 128 (size-at zs 2)) None (Some PartialRounds)) (Some FullRounds)) (Some Width)
+size-refused zs = sizes-refused (size-at zs 0) (size-at zs 1) (size-at zs 2)
 
 abbrev pub ahead : List ℤ → Result (List ℤ) Refusal → Result (List ℤ) Refusal
 ahead zs (Ok ws) = Ok (zs ++ ws)
@@ -67,7 +66,7 @@ sized (Some q) later = Err q
 -- line 1, the sizes, and then what the later lines are at these sizes
 abbrev pub headed : Option (List ℤ) → (ℕ → ℕ → ℕ → Result Parameters Refusal) → Result Parameters Refusal
 headed None later = Err (Line 1)
-headed (Some zs) later = sized (size-refused zs) (later (natAbs (size-at zs 0)) (natAbs (size-at zs 1)) (natAbs (size-at zs 2)))
+headed (Some zs) later = sized (size-refused zs) (later (size-at zs 0) (size-at zs 1) (size-at zs 2))
 
 abbrev pub of-lines : List (List ℕ) → Result Parameters Refusal
 of-lines ls = headed (line-of 3 ls) (λ n f p. with-column n f p (line-of n (drop 1 ls)) (rows n (f + p) 3 (drop 2 ls)))
@@ -78,12 +77,7 @@ sheet-of bs = of-lines (lines bs)
 
 -- what holds of the sizes of every sheet: the column has columns numbers, and there are elements constants
 pub record Shaped (width full partial columns elements : ℕ) : Type 0 where
-  pub width-least : 2 ≤ width
-  pub width-most : width ≤ 24
-  pub full-least : 6 ≤ full
-  pub full-most : full ≤ 32
-  pub partial-least : 1 ≤ partial
-  pub partial-most : partial ≤ 128
+  pub sizes : Admitted width full partial
   pub square : columns ≡ width
   pub rounds : elements ≡ (full + partial) * width
 

@@ -1,16 +1,15 @@
 ghost use mathlib.Core.Path.{_≡_};
-ghost use Prim.Native.Nat.{_≤_};
-ghost use lib.IntN.{natAbs};
 ghost use lib.ListN.{length};
 ghost use Rattle.std.specs.Results.{Cases};
-ghost use Rattle.std.specs.declared.option.Option.the-variants.{Some, None};
+ghost use Rattle.std.specs.declared.option.Option.the-variants.{Some};
 ghost use Rattle.std.specs.declared.result.Result.the-variants.{Err};
-ghost use Rattle.sheet.specs.Forms.{Checked};
-ghost use Rattle.sheet.specs.Sheets.{size-at, size-refused, sheet-of};
-use crate::MAX_WIDTH;
+ghost use Rattle.sheet.specs.Forms.{SizesOf, Checked};
+ghost use Rattle.sheet.specs.Sheets.{natural as nat, size-refused, sheet-of};
 use crate::line::read_line;
 use crate::rounds::check_rounds;
 use field::refusal::Refusal;
+use field::sizes::MAX_WIDTH;
+use field::sizes::check_sizes;
 
 #[derive(Clone, Copy)]
 pub(crate) struct Sizes {
@@ -19,27 +18,26 @@ pub(crate) struct Sizes {
     pub(crate) rounds_p: usize,
 }
 
+// A size; a negative one counts as 0, which no size may be.
+fn natural(n: i64) -> usize
+    ensures { λ r. ⌜ r ≡ nat n ⌝ }
+{
+    if n < 0 { 0 } else { n as usize }
+}
+
 // The three numbers of line 1, each within its bounds.
 fn checked_sizes(numbers: &[i64]) -> Result<Sizes, Refusal>
     requires { ⌜ length (now numbers) ≡ 3 ⌝ }
-    ensures { λ r. ⌜ Cases r (λ s. (size-refused (now (numbers .entry)) ≡ None) × (s .width ≡ natAbs (size-at (now (numbers .entry)) 0)) × (s .«rounds_f» ≡ natAbs (size-at (now (numbers .entry)) 1)) × (s .«rounds_p» ≡ natAbs (size-at (now (numbers .entry)) 2)) × (s .width ≤ 24) × (s .«rounds_f» ≤ 32) × (s .«rounds_p» ≤ 128)) (λ q. size-refused (now (numbers .entry)) ≡ Some q) ⌝ }
+    ensures { λ r. ⌜ Cases r (λ s. SizesOf (now (numbers .entry)) s) (λ q. size-refused (now (numbers .entry)) ≡ Some q) ⌝ }
 {
-    let width = numbers[0];
-    if width < 2 || width > 24 {
-        return Err(Refusal::Width);
-    }
-    let full = numbers[1];
-    if full < 6 || full > 32 {
-        return Err(Refusal::FullRounds);
-    }
-    let partial = numbers[2];
-    if partial < 1 || partial > 128 {
-        return Err(Refusal::PartialRounds);
-    }
+    let width = natural(numbers[0]);
+    let rounds_f = natural(numbers[1]);
+    let rounds_p = natural(numbers[2]);
+    check_sizes(width, rounds_f, rounds_p)?;
     Ok(Sizes {
-        width: width as usize,
-        rounds_f: full as usize,
-        rounds_p: partial as usize,
+        width,
+        rounds_f,
+        rounds_p,
     })
 }
 

@@ -19,9 +19,6 @@ mod line;
 mod number;
 mod rounds;
 
-// The largest width of a state.
-pub const MAX_WIDTH: usize = 24;
-
 // The parameters of a permutation.
 #[derive(Drop)]
 pub struct Sheet<F> {

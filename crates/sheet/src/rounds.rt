@@ -9,10 +9,10 @@ ghost use Rattle.std.specs.Results.{Cases, isOk};
 ghost use Rattle.std.specs.declared.result.Result.the-variants.{Ok, Err};
 ghost use Rattle.ring.specs.Rings.{integer};
 ghost use Rattle.sheet.specs.Places.{rows-at};
-use crate::MAX_WIDTH;
 use crate::line::read_line;
 use field::Field;
 use field::refusal::Refusal;
+use field::sizes::MAX_WIDTH;
 use std::alloc::AllocError;
 use std::alloc::Global;
 

@@ -27,7 +27,7 @@ returns-in-Break-circulant-to-dense g c =
     let n = c .in-Continue-sheet .sheet .width in
     let long : length (c .as-slice .result .now) ≡ n = c .as-slice .ensures .len ∙ s .square in
     let room : length (c .as-mut-slice .result .now) ≡ n * n = c .as-mut-slice .ensures .len ∙ c .in-Continue-matrix .ensures tt .made .1 in
-    absurd (column-expands (length (c .as-slice .result .now)) (length (c .as-mut-slice .result .now)) _ (omega (arith, s .width-least)) (omega (arith, s .width-most)) (room ∙ ap (λ k. k * k) (sym long)) (c .in-Break-circulant-to-dense .ensures tt .0))
+    absurd (column-expands (length (c .as-slice .result .now)) (length (c .as-mut-slice .result .now)) _ (omega (arith, s .sizes .width-least)) (omega (arith, s .sizes .width-most)) (room ∙ ap (λ k. k * k) (sym long)) (c .in-Break-circulant-to-dense .ensures tt .0))
 
 pub returns : need.returns
 returns g c =

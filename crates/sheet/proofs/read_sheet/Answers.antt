@@ -26,7 +26,7 @@ returns-in-Break-column g c =
     rw (p .1, p .2) (record { reads = checked (c .args .bytes .now) _ (c .in-Continue-sizes .ensures tt); shape = tt; grammar = grammar-holds })
 
 pub add-rounds-f : need.add-rounds-f
-add-rounds-f g c = let h = c .in-Continue-sizes .ensures tt .few in search needs
+add-rounds-f g c = let h = c .in-Continue-sizes .ensures tt .bounds in search needs
 
 pub returns-in-Break-constants : need.returns-in-Break-constants
 returns-in-Break-constants g c =
@@ -49,12 +49,7 @@ returns g c =
     record {
       reads = (m, e, record { width = refl; full = refl; partial = refl; column = column; constants = k .2 });
       shape = record {
-        width-least = w .width-least;
-        width-most = w .width-most;
-        full-least = w .full-least;
-        full-most = w .full-most;
-        partial-least = w .partial-least;
-        partial-most = w .partial-most;
+        sizes = w .sizes;
         square = c .in-Continue-column .column .ok .0 ∙ ap length column ∙ w .square;
         rounds = c .in-Continue-constants .constants .ok .0 ∙ sym (length-map _ (g .F·Field .value)) ∙ ap length (k .2) ∙ length-map (k .0) (integer (g .F·Field .ring)) ∙ w .rounds;
       };

@@ -27,7 +27,7 @@ sized : (c : In-Continue-sizes) → sheet-of (c .args .bytes .now) ≡ later (c 
 sized c =
     let k = c .in-Some .ensures tt in
     let s = c .in-Continue-sizes .ensures tt in
-    at-body (c .args .bytes .now) (c .read-line .last .numbers) _ _ _ (c .in-Some .body .now) (k .0) (s .0) (s .1) (s .2) (s .3) (k .1)
+    at-body (c .args .bytes .now) (c .read-line .last .numbers) _ _ _ (c .in-Some .body .now) (k .0) (s .passed) (s .width) (s .full) (s .partial) (k .1)
 
 -- the buffer of the column
 abbrev zeros : List ℤ
@@ -38,14 +38,14 @@ returns-in-rest-read-line c =
     let n = c .in-Continue-sizes .sizes .width in
     let s = c .in-Continue-sizes .ensures tt in
     let body = c .in-Some .body .now in
-    let none = ap (λ k. line-at k body) (sym (row-long n zeros (s .4))) ∙ c .in-rest-read-line .ensures tt in
+    let none = ap (λ k. line-at k body) (sym (row-long n zeros (s .bounds .width-most))) ∙ c .in-rest-read-line .ensures tt in
     sized (need.at·returns-in-rest-read-line c .In-Continue-sizes) ∙ at-column body n (c .in-Continue-sizes .sizes .«rounds_f») (c .in-Continue-sizes .sizes .«rounds_p») none
 
 -- past the column
 columned : (c : In-Some-read-line) → sheet-of (c .args .bytes .now) ≡ later (c .in-Some .body .now) (c .in-Continue-sizes .sizes .width) (c .in-Continue-sizes .sizes .«rounds_f») (c .in-Continue-sizes .sizes .«rounds_p») → sheet-of (c .args .bytes .now) ≡ with-column (c .in-Continue-sizes .sizes .width) (c .in-Continue-sizes .sizes .«rounds_f») (c .in-Continue-sizes .sizes .«rounds_p») (Some (c .read-line-2 .last .numbers)) (rows-at (c .in-Continue-sizes .sizes .width) (c .in-Continue-sizes .sizes .«rounds_f» + c .in-Continue-sizes .sizes .«rounds_p») 3 (c .in-Some-read-line .rounds .now))
 columned c b =
     let n = c .in-Continue-sizes .sizes .width in
-    let long = row-long n zeros (c .in-Continue-sizes .ensures tt .4) in
+    let long = row-long n zeros (c .in-Continue-sizes .ensures tt .bounds .width-most) in
     let body = c .in-Some .body .now in
     let k = c .in-Some-read-line .ensures tt in
     b ∙ at-rounds body (c .in-Some-read-line .rounds .now) n _ _ (c .read-line-2 .last .numbers) (ap (λ k. line-at k body) (sym long) ∙ k .0) (k .1 ∙ ap (λ k. drop (11 * k + 1) body) long)
@@ -68,9 +68,8 @@ returns c =
     let ns = c .read-line-2 .last .numbers in
     let kept : length ns ≡ length (take (n - 0) zeros) = c .read-line-2 .kept .numbers in
     record {
-      says = columned (need.at·returns c .In-Some-read-line) (sized (need.at·returns c .In-Continue-sizes)) ∙ ap (λ l. with-column n f q (Some l) rows) (sym (row-read n zeros ns (s .4) kept));
+      says = columned (need.at·returns c .In-Some-read-line) (sized (need.at·returns c .In-Continue-sizes)) ∙ ap (λ l. with-column n f q (Some l) rows) (sym (row-read n zeros ns (s .bounds .width-most) kept));
       accepted = c .in-Continue-check-rounds .ensures tt;
-      narrow = s .4;
-      few = omega arith;
+      bounds = s .bounds;
       room = row-kept n zeros ns kept;
     }
