@@ -1,6 +1,6 @@
 -- The laws of a commutative ring that follow from its record, as lemmas that `simp` takes by name.
-use mathlib.Core.Path.{_≡_, refl, sym, _∙_, ap, ap₂}
-use Rattle.ring.specs.Rings.{RingOn, Ring, Hom}
+use mathlib.Core.Path.{_≡_, refl, sym, _∙_, ap}
+use Rattle.ring.specs.Rings.{RingOn, Hom}
 
 module _ (R : RingOn) where
   infixl 60 _∔_

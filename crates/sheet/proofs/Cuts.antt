@@ -1,28 +1,29 @@
 -- The lines of a text, by places in it.
-use mathlib.Core.Path.{_≡_, refl, sym, ap, _∙_, subst}
-use mathlib.Core.Bool.{Bool, true, false, cond, _&&_}
-use mathlib.Core.List.{List, [], _∷_, _++_, append-assoc, map}
-use Prim.Native.Nat.{ℕ, zero, suc, _+_, _*_, _-_, _<_, _≤_}
+use mathlib.Core.Path.{_≡_, refl, sym, ap, _∙_}
+use mathlib.Core.Bool.{Bool, true, false, cond}
+use mathlib.Core.List.{List, [], _∷_, _++_, append-assoc}
+use Prim.Native.Nat.{ℕ, zero, suc, _+_, _*_, _-_}
 use native.Mathlib.Omega.{arith}
-use lib.ListN.{length, take, drop, getD, length-append}
-use lib.Dec.{leb, eqb}
-use lib.IntN.{ℤ, pos}
-use borrow.Author.Tests.{eq-eqb, ne-eqb, eqb-true}
-use Rattle.std.proofs.shelf.Lists.{take-append-drop, take-at, length-take, length-drop, drop-drop}
+use lib.ListN.{length, take, drop, length-append}
+use lib.Dec.{eqb}
+use lib.IntN.{ℤ}
+use Rattle.std.proofs.shelf.Lists.{take-append-drop, take-at, drop-drop}
 use Rattle.std.proofs.shelf.Ways.{tells}
 use Rattle.std.specs.declared.option.Option.{Option}
 use Rattle.std.specs.declared.option.Option.the-variants.{Some, None}
 use Rattle.std.specs.declared.result.Result.{Result}
-use Rattle.std.specs.declared.result.Result.the-variants.{Ok, Err}
 use Rattle.field.specs.declared.refusal.Refusal.{Refusal}
-use Rattle.sheet.specs.Grammar.{is-digit, all-digits, digits-value, plain, negated, number-value, text-value, field-value, both, end-of-line, line-values, begin, lines}
-use Rattle.sheet.specs.Layout.{glued}
+use Rattle.sheet.specs.Lines.{is-digit, all-digits, digits-value, plain, negated, number-value, text-value, field-value, both, line-values, begin, lines}
+use Rattle.sheet.specs.Grammar.{glued}
 use Rattle.sheet.specs.Places.{line-at, rows-at}
 use Rattle.sheet.specs.Sheets.{and-then, ahead, line-of, rows, with-column, sized, headed, of-lines, size-refused, size-at, Parameters}
 
 -- what bytes say, by the places of the lines
-abbrev pub of-bytes : List ℕ → Result (Parameters) Refusal
-of-bytes bs = headed (line-at 3 bs) (λ n f p. with-column n f p (line-at n (drop 34 bs)) (rows-at n (f + p) 3 (drop (11 * n + 1) (drop 34 bs))))
+abbrev pub later : List ℕ → ℕ → ℕ → ℕ → Result Parameters Refusal
+later xs n f p = with-column n f p (line-at n xs) (rows-at n (f + p) 3 (drop (11 * n + 1) xs))
+
+abbrev pub of-bytes : List ℕ → Result Parameters Refusal
+of-bytes bs = headed (line-at 3 bs) (later (drop 34 bs))
 
 -- no byte of it is a line feed
 abbrev pub unbroken : List ℕ → Bool
@@ -164,7 +165,7 @@ cut-rows k (suc m) i xs =
       | Some zs ↦ λ e. ap (λ r. ahead zs r) (ap (rows k m (i + 1)) (cut-rest k xs zs e) ∙ cut-rows k m (i + 1) (drop (11 * k + 1) xs))
     ] refl)
 
-cut-column : (n f p : ℕ) (xs : List ℕ) → with-column n f p (line-of n (lines xs)) (rows n (f + p) 3 (drop 1 (lines xs))) ≡ with-column n f p (line-at n xs) (rows-at n (f + p) 3 (drop (11 * n + 1) xs))
+cut-column : (n f p : ℕ) (xs : List ℕ) → with-column n f p (line-of n (lines xs)) (rows n (f + p) 3 (drop 1 (lines xs))) ≡ later xs n f p
 cut-column n f p xs =
     ap (λ o. with-column n f p o (rows n (f + p) 3 (drop 1 (lines xs)))) (cut-line n xs)
     ∙ (elim (line-at n xs) as (λ o. line-at n xs ≡ o → with-column n f p o (rows n (f + p) 3 (drop 1 (lines xs))) ≡ with-column n f p o (rows-at n (f + p) 3 (drop (11 * n + 1) xs))) [
@@ -176,10 +177,9 @@ cut-column n f p xs =
 pub cut-sheet : (xs : List ℕ) → of-lines (lines xs) ≡ of-bytes xs
 cut-sheet xs =
     let ls = lines xs in
-    let later : ℕ → ℕ → ℕ → Result (Parameters) Refusal = λ n f p. with-column n f p (line-of n (drop 1 ls)) (rows n (f + p) 3 (drop 2 ls)) in
-    let later′ : ℕ → ℕ → ℕ → Result (Parameters) Refusal = λ n f p. with-column n f p (line-at n (drop 34 xs)) (rows-at n (f + p) 3 (drop (11 * n + 1) (drop 34 xs))) in
-    ap (λ o. headed o later) (cut-line 3 xs)
-    ∙ (elim (line-at 3 xs) as (λ o. line-at 3 xs ≡ o → headed o later ≡ headed o later′) [
+    let body : ℕ → ℕ → ℕ → Result Parameters Refusal = λ n f p. with-column n f p (line-of n (drop 1 ls)) (rows n (f + p) 3 (drop 2 ls)) in
+    ap (λ o. headed o body) (cut-line 3 xs)
+    ∙ (elim (line-at 3 xs) as (λ o. line-at 3 xs ≡ o → headed o body ≡ headed o (later (drop 34 xs))) [
       | None ↦ λ e. refl
       | Some zs ↦ λ e.
           let n = size-at zs 0 in

@@ -7,21 +7,17 @@ use Rattle.std.specs.Results.{isOk}
 use Prim.Native.Nat.{ℕ, _+_, _*_}
 use lib.ListN.{take, drop}
 use lib.IntN.{ℤ}
-use Rattle.std.specs.declared.option.Option.{Option}
 use Rattle.std.specs.declared.option.Option.the-variants.{Some, None}
 use Rattle.std.specs.declared.result.Result.{Result}
 use Rattle.std.specs.declared.result.Result.the-variants.{Ok, Err}
 use Rattle.field.specs.declared.refusal.Refusal.{Refusal}
 use Rattle.field.specs.declared.refusal.Refusal.the-variants.{Line}
-use Rattle.sheet.specs.Grammar.{lines}
+use Rattle.sheet.specs.Lines.{lines}
 use Rattle.sheet.specs.Places.{line-at, rows-at}
 use Rattle.sheet.specs.Sheets.{Parameters, size-at, size-refused, with-column, sized, headed, of-lines, sheet-of}
 use Rattle.sheet.specs.Forms.{Checked}
 use Rattle.sheet.specs.declared.form.Form.{Form}
-use Rattle.sheet.proofs.Cuts.{cut-sheet}
-
-abbrev pub later : List ℕ → ℕ → ℕ → ℕ → Result Parameters Refusal
-later xs n f p = with-column n f p (line-at n xs) (rows-at n (f + p) 3 (drop (11 * n + 1) xs))
+use Rattle.sheet.proofs.Cuts.{later, cut-sheet}
 
 pub at-first : (xs : List ℕ) → line-at 3 xs ≡ None → of-lines (lines xs) ≡ Err (Line 1)
 at-first xs e = cut-sheet xs ∙ ap (λ o. headed o (later (drop 34 xs))) e

@@ -1,18 +1,18 @@
 -- A field is blanks, a minus sign or none, and digits.
 use mathlib.Core.Path.{_≡_, refl, sym, ap, _∙_}
-use mathlib.Core.Bool.{Bool, true, false, cond, _&&_}
+use mathlib.Core.Logic.{_↔_}
+use mathlib.Core.Bool.{Bool, true, false, cond}
 use mathlib.Core.List.{List, [], _∷_, _++_, map}
-use Prim.Native.Nat.{ℕ, zero, suc, _^_, _<_, _≤_}
+use Prim.Native.Nat.{ℕ, zero, suc, _<_}
 use native.Mathlib.Omega.{arith}
-use lib.ListN.{length, replicate, length-append}
+use lib.ListN.{length, replicate}
 use lib.IntN.{ℤ, pos, negℤ}
 use lib.Dec.{eqb}
 use borrow.Author.Tests.{eq-eqb}
-use Rattle.std.specs.shelf.Digits.{number, numberAfter}
+use Rattle.std.specs.shelf.Digits.{number}
 use Rattle.std.proofs.shelf.Ways.{tells}
-use Rattle.std.specs.declared.option.Option.{Option}
 use Rattle.std.specs.declared.option.Option.the-variants.{Some, None}
-use Rattle.sheet.specs.Grammar.{is-digit, all-digits, digit-value, digits-value, plain, negated, number-value, text-value, field-value, Written, Fields-written}
+use Rattle.sheet.specs.Lines.{is-digit, all-digits, digit-value, digits-value, plain, negated, number-value, text-value, field-value, Written}
 
 abbrev amount : List ℕ → ℕ
 amount ds = number 10 (map digit-value ds)
@@ -89,7 +89,7 @@ padded-says zero true ds s e = ap negated (digits-say ds s e)
 padded-says zero false ds s e = text-says ds s e
 padded-says (suc k) m ds s e = padded-says k m ds s e
 
-pub fields-written : Fields-written
+pub fields-written : (bs : List ℕ) (z : ℤ) → (field-value bs ≡ Some z) ↔ Written bs z
 fields-written bs z = (
   λ e.
       elim (eqb (length bs) 11) as (λ t. eqb (length bs) 11 ≡ t → cond t (text-value bs) None ≡ Some z → Written bs z) [

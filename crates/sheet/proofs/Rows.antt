@@ -8,7 +8,6 @@ use lib.ListN.{length, take, drop, getD}
 use lib.IntN.{ℤ, pos}
 use borrow.Rule.Slice.PartMut.{postOf, same-len-mid}
 use Rattle.std.proofs.shelf.Lists.{map-push, map-more, length-take, take-at}
-use Rattle.std.specs.declared.option.Option.{Option}
 use Rattle.std.specs.declared.option.Option.the-variants.{Some, None}
 use Rattle.std.specs.declared.result.Result.{Result}
 use Rattle.std.specs.declared.result.Result.the-variants.{Ok, Err}

@@ -1,24 +1,21 @@
--- The sizes of what a sheet says.
+-- The lines of a sheet, and its sizes.
 use mathlib.Core.Path.{_≡_, refl, sym, ap, _∙_, subst}
-use mathlib.Core.Bool.{Bool, true, false, cond, _&&_}
-use mathlib.Core.List.{List, [], _∷_, _++_, map}
-use Prim.Native.Nat.{ℕ, zero, suc, _+_, _*_, _≤_}
+use mathlib.Core.Bool.{true, false, cond, _&&_}
+use mathlib.Core.List.{List, [], _∷_, _++_}
+use Prim.Native.Nat.{ℕ, zero, suc, _+_, _*_, _<_}
 use native.Mathlib.Omega.{arith}
 use native.Mathlib.Nat.{suc-mul, zero-mul}
-use lib.ListN.{length, take, drop, getD, length-append}
-use lib.IntN.{ℤ}
+use lib.ListN.{length, take, drop, length-append}
+use lib.IntN.{ℤ, pos, negsuc}
+use Rattle.field.specs.Sizes.{sizes-refused}
 use Rattle.field.proofs.Bounds.{admitted}
 use lib.Dec.{eqb}
-use Rattle.std.proofs.shelf.Lists.{length-map}
-use Rattle.std.proofs.shelf.Ways.{tells}
-use Rattle.std.proofs.shelf.Signed.{ints}
-use Rattle.std.specs.declared.option.Option.{Option}
 use Rattle.std.specs.declared.option.Option.the-variants.{Some, None}
 use Rattle.std.specs.declared.result.Result.{Result}
 use Rattle.std.specs.declared.result.Result.the-variants.{Ok, Err}
 use Rattle.field.specs.declared.refusal.Refusal.{Refusal}
-use Rattle.sheet.specs.Grammar.{field-value, both, end-of-line, line-values}
-use Rattle.sheet.specs.Sheets.{Parameters, Well-shaped, size-at, size-refused, and-then, ahead, line-of, rows, with-column, sized, headed, of-lines}
+use Rattle.sheet.specs.Lines.{field-value, both, line-values}
+use Rattle.sheet.specs.Sheets.{Parameters, Well-shaped, natural, size-at, size-refused, and-then, ahead, line-of, rows, with-column, sized, headed, of-lines}
 
 pub line-length : (k : ℕ) (l : List ℕ) (zs : List ℤ) → line-values k l ≡ Some zs → length zs ≡ k
 line-length zero [] zs e = absurd (grind arith)
@@ -53,28 +50,68 @@ rows-length k (suc m) i ls vs e =
           ] refl h
     ] refl e
 
--- every sheet has the sizes that its first line says
-pub shaped : (ls : List (List ℕ)) (m : Parameters) → of-lines ls ≡ Ok m → Well-shaped m
-shaped ls m e =
+whole-size : (z : ℤ) → 0 < natural z → z ≡ pos (natural z)
+whole-size (pos n) h = refl
+whole-size (negsuc n) h = absurd (omega arith)
+
+three : (zs : List ℤ) → length zs ≡ 3 → size-refused zs ≡ None → zs ≡ pos (size-at zs 0) ∷ pos (size-at zs 1) ∷ pos (size-at zs 2) ∷ []
+three [] e h = absurd (omega arith)
+three (a ∷ []) e h = absurd (omega arith)
+three (a ∷ b ∷ []) e h = absurd (omega arith)
+three (a ∷ b ∷ c ∷ d ∷ zs) e h = absurd (omega arith)
+three (a ∷ b ∷ c ∷ []) e h =
+    let w = admitted (natural a) (natural b) (natural c) h in
+    let x = whole-size a (omega (arith, w .width-least)) in
+    let y = whole-size b (omega (arith, w .full-least)) in
+    let z = whole-size c (omega (arith, w .partial-least)) in
+    (λ i. x i ∷ y i ∷ z i ∷ [])
+
+-- the lines ls say m, each of them by what it holds
+pub record Opened (ls : List (List ℕ)) (m : Parameters) : Type 0 where
+  pub first : line-of 3 ls ≡ Some (pos (m .width) ∷ pos (m .full) ∷ pos (m .partial) ∷ [])
+  pub passed : sizes-refused (m .width) (m .full) (m .partial) ≡ None
+  pub second : line-of (m .width) (drop 1 ls) ≡ Some (m .column)
+  pub later : rows (m .width) (m .full + m .partial) 3 (drop 2 ls) ≡ Ok (m .constants)
+
+pub opened : (ls : List (List ℕ)) (m : Parameters) → of-lines ls ≡ Ok m → Opened ls m
+opened ls m e =
     let later : ℕ → ℕ → ℕ → Result Parameters Refusal = λ n f p. with-column n f p (line-of n (drop 1 ls)) (rows n (f + p) 3 (drop 2 ls)) in
-    elim (line-of 3 ls) as (λ o. headed o later ≡ Ok m → Well-shaped m) [
-      | None ↦ λ h. absurd (grind arith)
-      | Some zs ↦ λ h.
+    elim (line-of 3 ls) as (λ o. line-of 3 ls ≡ o → headed o later ≡ Ok m → Opened ls m) [
+      | None ↦ λ first h. absurd (grind arith)
+      | Some zs ↦ λ first h.
           let n = size-at zs 0 in
           let f = size-at zs 1 in
           let p = size-at zs 2 in
-          elim (size-refused zs) as (λ o. size-refused zs ≡ o → sized o (later n f p) ≡ Ok m → Well-shaped m) [
-            | Some q ↦ λ i j. absurd (grind arith)
-            | None ↦ λ i j.
-                elim (line-of n (drop 1 ls)) as (λ o. line-of n (drop 1 ls) ≡ o → with-column n f p o (rows n (f + p) 3 (drop 2 ls)) ≡ Ok m → Well-shaped m) [
-                  | None ↦ λ a b. absurd (grind arith)
-                  | Some col ↦ λ a b.
-                      elim (rows n (f + p) 3 (drop 2 ls)) as (λ r. rows n (f + p) 3 (drop 2 ls) ≡ r → with-column n f p (Some col) r ≡ Ok m → Well-shaped m) [
-                        | Err q ↦ λ c d. absurd (grind arith)
-                        | Ok vs ↦ λ c d.
-                            let same : record { width = n; full = f; partial = p; column = col; constants = vs } ≡ m = grind arith in
-                            subst Well-shaped same (record { sizes = admitted n f p i; square = line-of-length n (drop 1 ls) col a; rounds = rows-length n (f + p) 3 (drop 2 ls) vs c })
-                      ] refl b
-                ] refl j
+          elim (size-refused zs) as (λ o. size-refused zs ≡ o → sized o (later n f p) ≡ Ok m → Opened ls m) [
+            | Some q ↦ λ passed h. absurd (grind arith)
+            | None ↦ λ passed h.
+                elim (line-of n (drop 1 ls)) as (λ o. line-of n (drop 1 ls) ≡ o → with-column n f p o (rows n (f + p) 3 (drop 2 ls)) ≡ Ok m → Opened ls m) [
+                  | None ↦ λ second h. absurd (grind arith)
+                  | Some column ↦ λ second h.
+                      elim (rows n (f + p) 3 (drop 2 ls)) as (λ r. rows n (f + p) 3 (drop 2 ls) ≡ r → with-column n f p (Some column) r ≡ Ok m → Opened ls m) [
+                        | Err q ↦ λ rounds h. absurd (grind arith)
+                        | Ok constants ↦ λ rounds h.
+                            let same : record { width = n; full = f; partial = p; column = column; constants = constants } ≡ m = grind arith in
+                            let header = three zs (line-of-length 3 ls zs first) passed in
+                            subst (Opened ls) same (record { first = first ∙ ap Some header; passed = passed; second = second; later = rounds })
+                      ] refl h
+                ] refl h
           ] refl h
-    ] e
+    ] refl e
+
+pub closed : (ls : List (List ℕ)) (m : Parameters) → Opened ls m → of-lines ls ≡ Ok m
+closed ls m o =
+    let n = m .width in
+    let f = m .full in
+    let p = m .partial in
+    let later : ℕ → ℕ → ℕ → Result Parameters Refusal = λ n f p. with-column n f p (line-of n (drop 1 ls)) (rows n (f + p) 3 (drop 2 ls)) in
+    ap (λ h. headed h later) (o .first) ∙ ap (λ q. sized q (later n f p)) (o .passed) ∙ (λ t. with-column n f p (o .second t) (o .later t))
+
+-- every sheet has the sizes that its first line says
+pub shaped : (ls : List (List ℕ)) (m : Parameters) → Opened ls m → Well-shaped m
+shaped ls m o =
+    record {
+      sizes = admitted (m .width) (m .full) (m .partial) (o .passed);
+      square = line-of-length (m .width) (drop 1 ls) (m .column) (o .second);
+      rounds = rows-length (m .width) (m .full + m .partial) 3 (drop 2 ls) (m .constants) (o .later);
+    }

@@ -22,6 +22,7 @@ pub record SizesOf (zs : List ℤ) (s : Sizes) : Type 0 where
   pub partial : s .«rounds_p» ≡ size-at zs 2
   pub bounds : Admitted (s .width) (s .«rounds_f») (s .«rounds_p»)
 
+-- the sheet bs passed all checks of its form, and f holds its sizes, its column and where its rounds begin
 pub record Checked (bs : List ℕ) (f : Form) : Type 0 where
   pub says : sheet-of bs ≡ with-column (f .sizes .width) (f .sizes .«rounds_f») (f .sizes .«rounds_p») (Some (take (f .sizes .width) (f .column))) (rows-at (f .sizes .width) (f .sizes .«rounds_f» + f .sizes .«rounds_p») 3 (now (f .rounds)))
   pub accepted : isOk (rows-at (f .sizes .width) (f .sizes .«rounds_f» + f .sizes .«rounds_p») 3 (now (f .rounds))) ≡ true

@@ -1,88 +1,54 @@
--- What the bytes of a parameter sheet mean.
+-- The grammar of sheets: texts that are laid one behind the other, and what they say.
 use mathlib.Core.Path.{_≡_}
 use mathlib.Core.Logic.{_↔_}
-use mathlib.Core.List.{List, [], _∷_, _++_, map}
-use mathlib.Core.Bool.{Bool, true, false, cond, _&&_}
-use Prim.Native.Nat.{ℕ, zero, suc, _-_, _<_}
-use lib.Dec.{leb, eqb}
-use lib.IntN.{ℤ, pos, negℤ}
-use lib.ListN.{length, take, drop, replicate}
-use Rattle.std.specs.shelf.Digits.{number}
-use Rattle.std.specs.declared.option.Option.{Option}
-use Rattle.std.specs.declared.option.Option.the-variants.{Some, None}
+use mathlib.Core.List.{List, [], _∷_, _++_}
+use Prim.Native.Nat.{ℕ, _+_}
+use lib.IntN.{ℤ, pos}
+use lib.ListN.{length}
+use Rattle.std.specs.declared.result.Result.the-variants.{Ok}
+use Rattle.sheet.specs.Lines.{Written}
+use Rattle.sheet.specs.Sheets.{Parameters, Well-shaped, sheet-of}
 
--- '0' to '9'
-abbrev pub is-digit : ℕ → Bool
-is-digit b = leb 48 b && leb b 57
+abbrev pub glued : {X : Type 0} → List (List X) → List X
+glued [] = []
+glued (x ∷ xs) = x ++ glued xs
 
-abbrev pub all-digits : List ℕ → Bool
-all-digits [] = true
-all-digits (d ∷ ds) = is-digit d && all-digits ds
+-- the fields say the numbers, one each
+abbrev pub Say : List (List ℕ) → List ℤ → Type 0
+Say [] [] = Unit {0}
+Say [] (z ∷ zs) = ⊥
+Say (f ∷ fs) [] = ⊥
+Say (f ∷ fs) (z ∷ zs) = Written f z × Say fs zs
 
-abbrev pub digit-value : ℕ → ℕ
-digit-value b = b - 48
+-- a line that says zs: a field for each, and a line feed
+pub record LineSays (l : List ℕ) (zs : List ℤ) : Type 0 where
+  pub fields : List (List ℕ)
+  pub text : l ≡ glued fields ++ (10 ∷ [])
+  pub say : Say fields zs
 
--- one digit or more, read in base ten
-abbrev pub digits-value : List ℕ → Option ℕ
-digits-value [] = None
-digits-value (d ∷ ds) = cond (all-digits (d ∷ ds)) (Some (number 10 (map digit-value (d ∷ ds)))) None
+-- the lines say the rows, one each, and every row has k numbers
+abbrev pub LinesSay : ℕ → List (List ℕ) → List (List ℤ) → Type 0
+LinesSay k [] [] = Unit {0}
+LinesSay k [] (r ∷ rs) = ⊥
+LinesSay k (l ∷ ls) [] = ⊥
+LinesSay k (l ∷ ls) (r ∷ rs) = LineSays l r × (length r ≡ k) × LinesSay k ls rs
 
-abbrev pub plain : Option ℕ → Option ℤ
-plain None = None
-plain (Some n) = Some (pos n)
+-- bs is a sheet that says m: the line of the sizes, the line of the column, and a line for each round
+pub record SheetSays (bs : List ℕ) (m : Parameters) : Type 0 where
+  pub first : List ℕ
+  pub second : List ℕ
+  pub later : List (List ℕ)
+  pub rounds : List (List ℤ)
+  pub text : bs ≡ first ++ (second ++ glued later)
+  pub sizes : LineSays first (pos (m .width) ∷ pos (m .full) ∷ pos (m .partial) ∷ [])
+  pub columns : LineSays second (m .column)
+  pub rows : LinesSay (m .width) later rounds
+  pub count : length later ≡ m .full + m .partial
+  pub elements : m .constants ≡ glued rounds
+  pub shape : Well-shaped m
 
-abbrev pub negated : Option ℕ → Option ℤ
-negated None = None
-negated (Some n) = Some (negℤ (pos n))
-
--- digits, or '-' and digits
-abbrev pub number-value : List ℕ → Option ℤ
-number-value [] = None
-number-value (b ∷ bs) = cond (eqb b 45) (negated (digits-value bs)) (plain (digits-value (b ∷ bs)))
-
--- blanks, as many as there are, and a number
-abbrev pub text-value : List ℕ → Option ℤ
-text-value [] = None
-text-value (b ∷ bs) = cond (eqb b 32) (text-value bs) (number-value (b ∷ bs))
-
--- a field: a number that ends in the last of eleven columns
-abbrev pub field-value : List ℕ → Option ℤ
-field-value bs = cond (eqb (length bs) 11) (text-value bs) None
-
-abbrev pub both : Option ℤ → Option (List ℤ) → Option (List ℤ)
-both None zs = None
-both (Some z) None = None
-both (Some z) (Some zs) = Some (z ∷ zs)
-
--- the line feed, and nothing after it
-abbrev pub end-of-line : List ℕ → Option (List ℤ)
-end-of-line [] = None
-end-of-line (b ∷ bs) = cond (eqb b 10 && eqb (length bs) 0) (Some []) None
-
--- a line of k numbers: k fields, then a line feed
-abbrev pub line-values : ℕ → List ℕ → Option (List ℤ)
-line-values zero bs = end-of-line bs
-line-values (suc k) bs = both (field-value (take 11 bs)) (line-values k (drop 11 bs))
-
--- The text cut after each line feed. What follows the last line feed is a line too.
-abbrev pub begin : ℕ → List (List ℕ) → List (List ℕ)
-begin b [] = (b ∷ []) ∷ []
-begin b (l ∷ ls) = (b ∷ l) ∷ ls
-
-abbrev pub lines : List ℕ → List (List ℕ)
-lines [] = []
-lines (b ∷ bs) = cond (eqb b 10) ((b ∷ []) ∷ lines bs) (begin b (lines bs))
-
--- The same in one sentence: bs is a field that says z.
-pub record Written (bs : List ℕ) (z : ℤ) : Type 0 where
-  pub blanks : ℕ
-  pub minus : Bool
-  pub digits : List ℕ
-  pub text : bs ≡ replicate blanks 32 ++ (cond minus (45 ∷ []) [] ++ digits)
-  pub columns : length bs ≡ 11
-  pub some : 0 < length digits
-  pub each : all-digits digits ≡ true
-  pub says : z ≡ cond minus (negℤ (pos (number 10 (map digit-value digits)))) (pos (number 10 (map digit-value digits)))
-
-abbrev pub Fields-written : Type 0
-Fields-written = (bs : List ℕ) (z : ℤ) → (field-value bs ≡ Some z) ↔ Written bs z
+pub record Grammar-holds : Type 0 where
+  -- the accepted texts are the sheets
+  pub laid : (bs : List ℕ) (m : Parameters) → (sheet-of bs ≡ Ok m) ↔ SheetSays bs m
+  -- no text is two sheets
+  pub once : (bs : List ℕ) (m n : Parameters) → SheetSays bs m → SheetSays bs n → m ≡ n

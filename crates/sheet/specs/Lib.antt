@@ -1,6 +1,6 @@
-pub mod Grammar
+pub mod Lines
 pub mod Sheets
-pub mod Layout
+pub mod Grammar
 pub mod Places
-pub mod Answers
 pub mod Forms
+pub mod Answers

@@ -9,8 +9,8 @@ use Rattle.std.specs.declared.result.Result.{Result}
 use Rattle.std.specs.declared.result.Result.the-variants.{Ok, Err}
 use Rattle.field.specs.declared.refusal.Refusal.{Refusal}
 use Rattle.field.specs.declared.refusal.Refusal.the-variants.{Line}
-use Rattle.sheet.specs.Grammar.{line-values}
-use Rattle.sheet.specs.Sheets.{and-then, with-column, Parameters}
+use Rattle.sheet.specs.Lines.{line-values}
+use Rattle.sheet.specs.Sheets.{and-then}
 
 -- a number that is there is below 10 ^ 12
 abbrev pub Small : Option ℕ → Type 0

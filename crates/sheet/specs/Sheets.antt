@@ -11,7 +11,7 @@ use Rattle.std.specs.declared.result.Result.the-variants.{Ok, Err}
 use Rattle.field.specs.declared.refusal.Refusal.{Refusal}
 use Rattle.field.specs.declared.refusal.Refusal.the-variants.{Line}
 use Rattle.field.specs.Sizes.{sizes-refused, Admitted}
-use Rattle.sheet.specs.Grammar.{line-values, lines}
+use Rattle.sheet.specs.Lines.{line-values, lines}
 
 -- the whole numbers that a sheet says; the constants are those of all rounds, one round after another
 pub record Parameters : Type 0 where

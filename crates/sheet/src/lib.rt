@@ -1,7 +1,7 @@
 ghost use Rattle.std.specs.Of.Vec.{vec-len};
 ghost use Rattle.std.specs.Vec.{made};
 ghost use Rattle.sheet.specs.Answers.{Reads};
-ghost use Rattle.sheet.specs.Layout.{Grammar-holds};
+ghost use Rattle.sheet.specs.Grammar.{Grammar-holds};
 ghost use Rattle.sheet.specs.Sheets.{Shaped};
 use error::SheetError;
 use error::SheetErrorFromAlloc;

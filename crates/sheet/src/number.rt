@@ -1,7 +1,7 @@
 ghost use mathlib.Core.Path.{_≡_};
 ghost use Prim.Native.Nat.{_≤_};
 ghost use lib.ListN.{length};
-ghost use Rattle.sheet.specs.Grammar.{digits-value, number-value, text-value};
+ghost use Rattle.sheet.specs.Lines.{digits-value, number-value, text-value};
 ghost use Rattle.sheet.specs.Places.{Small};
 
 // One digit or more.

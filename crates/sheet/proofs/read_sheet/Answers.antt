@@ -5,14 +5,14 @@ use borrow.Author.Needs.{needs}
 use lib.ListN.{length, take}
 use Rattle.std.proofs.shelf.Lists.{length-map}
 use Rattle.std.proofs.shelf.Results.{err-from-errBy}
-use Rattle.std.specs.declared.option.Option.the-variants.{Some, None}
-use Rattle.std.specs.declared.result.Result.the-variants.{Ok, Err}
+use Rattle.std.specs.declared.option.Option.the-variants.{Some}
+use Rattle.std.specs.declared.result.Result.the-variants.{Ok}
 use Rattle.ring.specs.Rings.{integer}
-use Rattle.sheet.specs.Grammar.{lines}
+use Rattle.sheet.specs.Lines.{lines}
 use Rattle.sheet.specs.Sheets.{Parameters, sheet-of, with-column}
 use Rattle.sheet.proofs.Exits.{checked}
-use Rattle.sheet.proofs.Shapes.{shaped}
-use Rattle.sheet.proofs.Layouts.{grammar-holds}
+use Rattle.sheet.proofs.Shapes.{opened, shaped}
+use Rattle.sheet.proofs.GrammarHolds.{grammar-holds}
 use Rattle.sheet.proofs.read_sheet.Needs as need
 
 pub returns-in-Break-sizes : need.returns-in-Break-sizes
@@ -45,7 +45,7 @@ returns g c =
     let column = c .in-Continue-column .ensures tt .exact (λ x y e. e) ∙ ap (λ j. take j (form .column)) all in
     let m : Parameters = record { width = n; full = f; partial = q; column = take n (form .column); constants = k .0 } in
     let e : sheet-of (c .args .bytes .now) ≡ Ok m = h .says ∙ ap (with-column n f q (Some (take n (form .column)))) (k .1) in
-    let w = shaped (lines (c .args .bytes .now)) m e in
+    let w = shaped (lines (c .args .bytes .now)) m (opened (lines (c .args .bytes .now)) m e) in
     record {
       reads = (m, e, record { width = refl; full = refl; partial = refl; column = column; constants = k .2 });
       shape = record {

@@ -1,6 +1,6 @@
-use mathlib.Core.Path.{_≡_, _∙_, ap}
+use mathlib.Core.Path.{_∙_, ap}
 use mathlib.Core.List.{_∷_, []}
-use Prim.Native.Nat.{ℕ, Fin}
+use Prim.Native.Nat.{Fin}
 use Rattle.worked.proofs.Values.{worked-values}
 use Rattle.worked.proofs.worked_values.Needs as need
 

@@ -1,6 +1,4 @@
-use mathlib.Core.Path.{_≡_, refl, sym, ap, _∙_}
-use native.Mathlib.Omega.{arith}
-use borrow.Author.Needs.{needs}
+use mathlib.Core.Path.{_≡_, sym, ap, _∙_}
 use Prim.Native.Nat.{_-_, _+_, _*_}
 use mathlib.Core.List.{List}
 use lib.IntN.{ℤ, pos}
@@ -10,7 +8,8 @@ use Rattle.std.specs.declared.option.Option.the-variants.{Some}
 use Rattle.sheet.specs.Places.{line-at, rows-at}
 use Rattle.sheet.specs.Sheets.{with-column, sheet-of}
 use Rattle.sheet.proofs.Rows.{row-long, row-kept, row-read}
-use Rattle.sheet.proofs.Exits.{later, at-first, at-size, at-body, at-column, at-rounds}
+use Rattle.sheet.proofs.Cuts.{later}
+use Rattle.sheet.proofs.Exits.{at-first, at-size, at-body, at-column, at-rounds}
 use Rattle.sheet.proofs.form.check_form.Needs as need
 use Rattle.sheet.proofs.form.check_form.Needs.{In-Continue-sizes, In-Some-read-line}
 

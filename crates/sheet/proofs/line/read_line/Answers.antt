@@ -1,4 +1,4 @@
-use mathlib.Core.Path.{_≡_, refl, sym, ap, _∙_}
+use mathlib.Core.Path.{_≡_, sym, ap, _∙_}
 use mathlib.Core.List.{_∷_, [], _++_}
 use Prim.Native.Nat.{_-_, _<_, _+_, _*_, suc}
 use native.Mathlib.Omega.{arith}
@@ -8,7 +8,7 @@ use mir.Syntax.{w64}
 use mir.Val.{SFits, toZ, ofZ}
 use Rattle.std.proofs.shelf.Lists.{take-all, take-more-set}
 use Rattle.std.proofs.shelf.Signed.{toZ-ofZ}
-use Rattle.sheet.specs.Grammar.{text-value}
+use Rattle.sheet.specs.Lines.{text-value}
 use Rattle.sheet.specs.Places.{line-at}
 use Rattle.sheet.proofs.Lines.{after-all, line-some, drop-some, line-none, line-end, rest-end, field-full, field-short}
 use Rattle.sheet.proofs.line.read_line.Needs as need

@@ -1,9 +1,9 @@
-use mathlib.Core.Path.{_≡_, refl, sym, ap, _∙_}
-use mathlib.Core.List.{_∷_, [], _++_}
-use Prim.Native.Nat.{_-_, _<_, _+_, _*_, suc}
+use mathlib.Core.Path.{_≡_, sym, ap, _∙_}
+use mathlib.Core.List.{[], _++_}
+use Prim.Native.Nat.{_-_, _+_, _*_, suc}
 use native.Mathlib.Omega.{arith}
 use borrow.Author.Needs.{needs}
-use lib.ListN.{length, take, drop}
+use lib.ListN.{length, drop}
 use Rattle.sheet.specs.Places.{line-at, rows-at}
 use Rattle.sheet.proofs.Rows.{ahead-none, rows-more, rows-bad}
 use Rattle.sheet.proofs.rounds.check_rounds.Needs as need

@@ -1,0 +1,26 @@
+-- How numbers are printed.
+use mathlib.Core.Bool.{cond}
+use mathlib.Core.List.{List, [], _∷_, _++_}
+use Prim.Native.Nat.{ℕ, _+_, _-_, _%_, _^_, _<_}
+use lib.Dec.{eqb}
+use lib.IntN.{pos}
+use lib.ListN.{length, replicate}
+use Rattle.std.specs.Written.{decimal}
+use Rattle.sheet.specs.Lines.{Written}
+
+-- a number, right-justified in eleven columns
+abbrev pub column : ℕ → List ℕ
+column n = replicate (11 - length (decimal n)) 32 ++ decimal n
+
+-- each number in its columns, and a line feed after every w-th; the first of them has place k
+abbrev pub rows-of : ℕ → ℕ → List ℕ → List ℕ
+rows-of w k [] = []
+rows-of w k (n ∷ ns) = (column n ++ cond (eqb ((k + 1) % w) 0) (10 ∷ []) []) ++ rows-of w (k + 1) ns
+
+-- a line of two numbers
+abbrev pub line-of : ℕ → ℕ → List ℕ
+line-of m n = column m ++ (column n ++ 10 ∷ [])
+
+-- by the grammar of sheets, what is printed of a number says that number
+abbrev pub Columns-read : Type 0
+Columns-read = (n : ℕ) → n < 10 ^ 11 → Written (column n) (pos n)
