@@ -1,4 +1,6 @@
-// Tests of the fields and of the sheet reader, apart from their crates so that these are proved once.
+// Tests of the fields, the sheet reader and the expansion, apart from their crates so that these are proved once.
+#[cfg(test)]
+mod expansion;
 #[cfg(test)]
 mod fields;
 #[cfg(test)]

@@ -1,1 +1,3 @@
 pub mod Foldings
+pub mod Pads
+pub mod Outputs

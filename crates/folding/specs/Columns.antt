@@ -12,10 +12,14 @@ use Rattle.sheet.specs.Lines.{Written}
 abbrev pub column : ℕ → List ℕ
 column n = replicate (11 - length (decimal n)) 32 ++ decimal n
 
--- each number in its columns, and a line feed after every w-th; the first of them has place k
+-- the number of place k, and a line feed where it ends a row of w
+abbrev pub entry-of : ℕ → ℕ → ℕ → List ℕ
+entry-of w k n = column n ++ cond (eqb ((k + 1) % w) 0) (10 ∷ []) []
+
+-- numbers in rows of w, of which the first has place k
 abbrev pub rows-of : ℕ → ℕ → List ℕ → List ℕ
 rows-of w k [] = []
-rows-of w k (n ∷ ns) = (column n ++ cond (eqb ((k + 1) % w) 0) (10 ∷ []) []) ++ rows-of w (k + 1) ns
+rows-of w k (n ∷ ns) = entry-of w k n ++ rows-of w (k + 1) ns
 
 -- a line of two numbers
 abbrev pub line-of : ℕ → ℕ → List ℕ

@@ -1,8 +1,9 @@
 ghost use mathlib.Core.List.{map, _++_};
 ghost use mathlib.Core.Path.{_≡_};
+ghost use Prim.Native.Nat.{_<_, _^_};
 ghost use Rattle.std.specs.Of.String.{string-bytes};
 ghost use Rattle.std.specs.Vec.{made};
-ghost use Rattle.folding.specs.Columns.{column, line-of, rows-of, Columns-read};
+ghost use Rattle.folding.specs.Columns.{column, entry-of, line-of, rows-of, Columns-read};
 ghost use Rattle.field.specs.Refusals.{number-of, place-of};
 use field::refusal::Refusal;
 use field::residue::Residue;
@@ -20,7 +21,26 @@ fn push_column(heap: Global, text: &mut String, n: u64) -> Result<(), AllocError
     for _ in digits.len()..COLUMNS {
         text.push(' ')?;
     }
-    text.push_str(digits.as_str())
+    text.push_str(digits.as_str())?;
+    Ok(())
+}
+
+// Puts the number of place `k` behind `text`, and a line feed where it ends a row of `width`.
+fn push_entry(
+    heap: Global,
+    text: &mut String,
+    width: usize,
+    k: usize,
+    n: u64,
+) -> Result<(), AllocError>
+    requires { ⌜ k < 2 ^ 63 ⌝ }
+    ensures { λ r. ⌜ made r (λ _. string-bytes (now (text .exit)) ≡ string-bytes (now (text .entry)) ++ entry-of width k n) ⌝ }
+{
+    push_column(heap, text, n)?;
+    if width > 0 && (k + 1) % width == 0 {
+        text.push('\n')?;
+    }
+    Ok(())
 }
 
 // The text of residues in rows of `width`, each right-justified in 11 columns.
@@ -34,10 +54,7 @@ pub fn rows_text<const P: u32>(
 {
     let mut text = String::new(heap);
     for (k, element) in elements.iter().enumerate() {
-        push_column(heap, &mut text, element.as_canonical_u32() as u64)?;
-        if width > 0 && (k + 1) % width == 0 {
-            text.push('\n')?;
-        }
+        push_entry(heap, &mut text, width, k, element.as_canonical_u32() as u64)?;
     }
     Ok(text)
 }

@@ -9,6 +9,7 @@ use sheet::read_sheet;
 use std::alloc::Global;
 
 pub mod columns;
+pub mod output;
 
 // A sheet, and what is folded from it.
 #[derive(Drop)]

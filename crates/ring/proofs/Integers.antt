@@ -1,4 +1,4 @@
--- Sums of ones: they add, multiply and change sign as the whole numbers do.
+-- Sums of ones multiply and change sign as the whole numbers do that count them.
 use mathlib.Core.Path.{_≡_, refl, sym, _∙_, ap}
 use Prim.Native.Nat.{ℕ, zero, suc, _+_, _*_}
 use native.Mathlib.Nat.{zero-add, suc-add, zero-mul, suc-mul}

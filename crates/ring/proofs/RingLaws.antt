@@ -1,25 +1,8 @@
 -- The laws of a commutative ring that follow from its record, as lemmas that `simp` takes by name.
-use mathlib.Core.Path.{_≡_, refl, sym, _∙_, ap}
-use Rattle.ring.specs.Rings.{RingOn, Hom}
+use mathlib.Core.Path.{_≡_, sym, _∙_, ap}
+use Rattle.ring.specs.Rings.{RingOn}
 
 module _ (R : RingOn) where
-  infixl 60 _∔_
-  infixl 70 _·_
-  abbrev _∔_ : R .V → R .V → R .V
-  _∔_ = R .add
-
-  abbrev _·_ : R .V → R .V → R .V
-  _·_ = R .mul
-
-  abbrev 0# : R .V
-  0# = R .nil
-
-  abbrev 1# : R .V
-  1# = R .one
-
-  abbrev −_ : R .V → R .V
-  −_ = R .neg
-
   pub add-assoc : (x y z : R .V) → R .add (R .add x y) z ≡ R .add x (R .add y z)
   add-assoc = R .laws .add-assoc
 
@@ -103,6 +86,3 @@ module _ (R : RingOn) where
       (add-assoc x y _ ∙ ap (R .add x) (add-left-comm y (R .neg x) (R .neg y)) ∙ add-neg-left x _ ∙ add-neg y))
 
 pub ruleset ring = (mul-add, add-mul, mul-assoc, mul-comm, mul-left-comm, add-assoc, add-comm, add-left-comm, mul-nil, nil-mul, add-nil, nil-add, mul-one, one-mul, neg-add, mul-neg, neg-mul, neg-neg, neg-nil, add-neg, neg-add-self, add-neg-left, neg-add-left)
-
-pub same-hom : (R : RingOn) → Hom R R (λ x. x)
-same-hom R = record { at-nil = refl; at-one = refl; at-add = λ x y. refl; at-mul = λ x y. refl }

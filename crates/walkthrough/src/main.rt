@@ -10,7 +10,7 @@ use field::residue::Modulus;
 use field::residue::Residue;
 use field::residue::ResidueField;
 use folding::Folded;
-use folding::columns::print_rows;
+use folding::columns::rows_text;
 use folding::fold;
 use sheet::error::SheetError;
 use std::io;
@@ -57,11 +57,11 @@ fn tell_folded(rt: &LibcRuntime, folded: &Folded<F17>) -> io::Result<()> {
         rt,
         "   {full} full and {partial} partial rounds. The constants, a line a round:"
     )?;
-    print_rows(rt, width, sheet.constants.as_slice())?;
+    rt.print(rows_text(rt.alloc(), width, sheet.constants.as_slice())?.as_str())?;
     rt.println(
         "3. The column is expanded: M, row by row. Each column is the one before it, moved down.",
     )?;
-    print_rows(rt, width, folded.matrix.as_slice())
+    rt.print(rows_text(rt.alloc(), width, folded.matrix.as_slice())?.as_str())
 }
 
 // The product of the elements for `a` and `b`: the element for the whole number `a` times `b`, in every field.
@@ -79,15 +79,20 @@ where
     let residue = product::<Residue<P>>(a, b).as_canonical_u32();
     let whole = a as i64 * b as i64;
     let remainder = whole.rem_euclid(P as i64);
+    let verdict = if residue as i64 == remainder {
+        "agree"
+    } else {
+        "DIFFER"
+    };
     println!(
         rt,
-        "   modulo {P}: {a} times {b} gives {residue}, and {whole} leaves {remainder}"
+        "   modulo {P}: {a} times {b} gives {residue}, and {whole} leaves {remainder}: they {verdict}"
     )
 }
 
 fn tell_products(rt: &LibcRuntime) -> io::Result<()> {
     rt.println(
-        "4. Bench, card and verifier share one arithmetic, so it is held to whole numbers.",
+        "4. The bench that prepares, the card that runs and the verifier share one arithmetic.\n   So its products are held to those of whole numbers:",
     )?;
     tell_product::<17>(rt, -5, 7)?;
     tell_product::<17>(rt, i32::MIN, i32::MAX)?;
@@ -110,7 +115,7 @@ fn tell_small_field(rt: &LibcRuntime) -> io::Result<()> {
 
 fn tell_damaged(rt: &LibcRuntime) -> io::Result<()> {
     rt.println("6. A plus sign on line 3: the line is answered, and nothing is guessed.")?;
-    tell_with(rt, 67, b'+')?;
+    tell_with(rt, 66, b'+')?;
     rt.println("   A width of 1:")?;
     tell_with(rt, 10, b'1')?;
     rt.println("   The last line cut off before its end:")?;

@@ -5,8 +5,9 @@ use lib.Dec.{lit<}
 use lib.IntN.{ℤ, pos, negℤ, natAbs}
 use Rattle.std.specs.Numbers.{remEuclid}
 use Rattle.ring.specs.Rings.{integer}
+use Rattle.ring.specs.Residues.{Z17}
 use Rattle.ring.proofs.ResidueLaws.{integer-at}
-use Rattle.worked.specs.Worked.{Z17, at, Worked-values}
+use Rattle.worked.specs.Worked.{at, Worked-values}
 
 -- a remainder is computed, a sum of so many ones is not
 from : (z : ℤ) (n : ℕ) → natAbs (remEuclid z (pos 17)) ≡ at n .0 → integer Z17 z ≡ at n

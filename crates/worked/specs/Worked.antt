@@ -3,11 +3,8 @@ use mathlib.Core.Path.{_≡_}
 use Prim.Native.Nat.{ℕ, _^_, Fin}
 use lib.Dec.{lit<}
 use lib.IntN.{pos, negℤ}
-use Rattle.ring.specs.Rings.{RingOn, integer}
-use Rattle.ring.specs.Residues.{residues, res}
-
-abbrev pub Z17 : RingOn
-Z17 = residues 17 (lit< tt)
+use Rattle.ring.specs.Rings.{integer}
+use Rattle.ring.specs.Residues.{res, Z17}
 
 abbrev pub at : ℕ → Fin 17
 at = res 17 (lit< tt)
