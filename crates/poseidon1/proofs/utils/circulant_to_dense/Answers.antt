@@ -1,12 +1,10 @@
 use mathlib.Core.Path.{_≡_, refl, sym, ap, _∙_}
 use mathlib.Core.List.{map}
-use Prim.Native.Nat.{ℕ, _+_, _-_, _*_, _/_, _%_}
+use Prim.Native.Nat.{ℕ, _-_, _*_, _/_, _%_}
 use native.Mathlib.Omega.{arith}
 use borrow.Author.Needs.{needs}
-use lib.IntN.{pos}
-use lib.ListN.{length, getD}
+use lib.ListN.{length}
 use mir.Syntax.{w64}
-use mir.Val.{SFits}
 use Rattle.std.proofs.shelf.Lists.{take-all}
 use Rattle.std.proofs.shelf.Signed.{toZ-ofZ}
 use Rattle.ring.specs.Rings.{integer}
@@ -22,13 +20,8 @@ loop-k-holds g c = refl
 
 pub loop-k-again : need.loop-k-again
 loop-k-again g c =
-    let column = c .args .column .now in
-    let n = length column in
-    let k = c .loop-k .k in
-    let z = getD column ((n + k / n - k % n) % n) (pos 0) in
-    let fits : SFits w64 z = search needs in
-    written-more (g .F·Field .value) _ (c .loop-k .dense) k (c .from-i64 .result) (omega arith) (c .loop-k .inv)
-    (c .from-i64 .ensures ∙ ap (integer (g .F·Field .ring)) (toZ-ofZ w64 z fits))
+    written-more (g .F·Field .value) _ (c .loop-k .dense) (c .loop-k .k) (c .from-i64 .result) (omega arith) (c .loop-k .inv)
+    (c .from-i64 .ensures ∙ ap (integer (g .F·Field .ring)) (toZ-ofZ w64 _ (search needs)))
 
 pub returns : need.returns
 returns g c =
