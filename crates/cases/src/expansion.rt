@@ -18,7 +18,7 @@ fn columns_move_down() -> Result<(), Fail> {
     Ok(())
 }
 
-// The refusal, if any, and what the buffer of four ones then holds.
+// The refusal, if any, and the sum of a buffer that held four ones before.
 fn answer(column: &[i64], length: usize) -> Result<(Option<Refusal>, u32), Fail> {
     let mut dense = [F17::one(); 4];
     check(length <= 4)?;

@@ -1,4 +1,4 @@
--- Numbers in columns: one blank more, one number more, and what a column says.
+-- Numbers in columns: one blank more, one number more, and what a padded says.
 use mathlib.Core.Path.{_≡_, refl, sym, ap, _∙_}
 use mathlib.Core.Bool.{true, false}
 use mathlib.Core.List.{List, [], _∷_, _++_, append-assoc, append-nil, map}

@@ -9,12 +9,12 @@ use Rattle.std.specs.Written.{decimal}
 use Rattle.sheet.specs.Lines.{Written}
 
 -- a number, right-justified in eleven columns
-abbrev pub column : ℕ → List ℕ
-column n = replicate (11 - length (decimal n)) 32 ++ decimal n
+abbrev pub padded : ℕ → List ℕ
+padded n = replicate (11 - length (decimal n)) 32 ++ decimal n
 
 -- the number of place k, and a line feed where it ends a row of w
 abbrev pub entry-of : ℕ → ℕ → ℕ → List ℕ
-entry-of w k n = column n ++ cond (eqb ((k + 1) % w) 0) (10 ∷ []) []
+entry-of w k n = padded n ++ cond (eqb ((k + 1) % w) 0) (10 ∷ []) []
 
 -- numbers in rows of w, of which the first has place k
 abbrev pub rows-of : ℕ → ℕ → List ℕ → List ℕ
@@ -22,9 +22,9 @@ rows-of w k [] = []
 rows-of w k (n ∷ ns) = entry-of w k n ++ rows-of w (k + 1) ns
 
 -- a line of two numbers
-abbrev pub line-of : ℕ → ℕ → List ℕ
-line-of m n = column m ++ (column n ++ 10 ∷ [])
+abbrev pub pair-line : ℕ → ℕ → List ℕ
+pair-line m n = padded m ++ (padded n ++ 10 ∷ [])
 
 -- by the grammar of sheets, what is printed of a number says that number
 abbrev pub Columns-read : Type 0
-Columns-read = (n : ℕ) → n < 10 ^ 11 → Written (column n) (pos n)
+Columns-read = (n : ℕ) → n < 10 ^ 11 → Written (padded n) (pos n)

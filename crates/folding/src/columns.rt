@@ -3,7 +3,7 @@ ghost use mathlib.Core.Path.{_≡_};
 ghost use Prim.Native.Nat.{_<_, _^_};
 ghost use Rattle.std.specs.Of.String.{string-bytes};
 ghost use Rattle.std.specs.Vec.{made};
-ghost use Rattle.folding.specs.Columns.{column, entry-of, line-of, rows-of, Columns-read};
+ghost use Rattle.folding.specs.Columns.{padded, entry-of, pair-line, rows-of, Columns-read};
 ghost use Rattle.field.specs.Refusals.{number-of, place-of};
 use field::refusal::Refusal;
 use field::residue::Residue;
@@ -15,7 +15,7 @@ const COLUMNS: usize = 11;
 
 // Puts a number, right-justified in its columns, behind `text`.
 fn push_column(heap: Global, text: &mut String, n: u64) -> Result<(), AllocError>
-    ensures { λ r. ⌜ made r (λ _. string-bytes (now (text .exit)) ≡ string-bytes (now (text .entry)) ++ column n) ⌝ }
+    ensures { λ r. ⌜ made r (λ _. string-bytes (now (text .exit)) ≡ string-bytes (now (text .entry)) ++ padded n) ⌝ }
 {
     let digits = n.to_string(heap)?;
     for _ in digits.len()..COLUMNS {
@@ -44,6 +44,7 @@ fn push_entry(
 }
 
 // The text of residues in rows of `width`, each right-justified in 11 columns.
+// Only a full row ends with a line feed, so none does at width 0.
 pub fn rows_text<const P: u32>(
     heap: Global,
     width: usize,
@@ -61,7 +62,7 @@ pub fn rows_text<const P: u32>(
 
 // The text of a refusal: one line, number and place.
 pub fn refusal_text(heap: Global, refusal: Refusal) -> Result<String, AllocError>
-    ensures { λ r. ⌜ made r (λ text. string-bytes text ≡ line-of (number-of refusal) (place-of refusal)) ⌝ }
+    ensures { λ r. ⌜ made r (λ text. string-bytes text ≡ pair-line (number-of refusal) (place-of refusal)) ⌝ }
 {
     let mut text = String::new(heap);
     push_column(heap, &mut text, refusal.number() as u64)?;

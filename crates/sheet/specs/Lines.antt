@@ -72,7 +72,7 @@ abbrev pub lines : List ℕ → List (List ℕ)
 lines [] = []
 lines (b ∷ bs) = cond (eqb b 10) ((b ∷ []) ∷ lines bs) (begin b (lines bs))
 
--- The same in one sentence: bs is a field that says z.
+-- What a field is, in one sentence: bs is a field that says z.
 pub record Written (bs : List ℕ) (z : ℤ) : Type 0 where
   pub blanks : ℕ
   pub minus : Bool

@@ -103,13 +103,13 @@ fn tell_products(rt: &LibcRuntime) -> io::Result<()> {
 }
 
 fn tell_small_field(rt: &LibcRuntime) -> io::Result<()> {
-    let [one, modulus, least] = worked_values();
+    let [minus_one, minus_modulus, least] = worked_values();
     rt.println(
         "5. Whole numbers of either sign enter a field as sums of ones. In the field of 17:",
     )?;
     println!(
         rt,
-        "   -1 gives {one}, -17 gives {modulus}, -9223372036854775808 gives {least}."
+        "   -1 gives {minus_one}, -17 gives {minus_modulus}, -9223372036854775808 gives {least}."
     )
 }
 
