@@ -1,3 +1,5 @@
+#![tactic(auto)]
+
 ghost use Rattle.std.specs.Prelude.{map, ◌≡◌};
 ghost use Rattle.ring.specs.Rings.{RingOn, Hom};
 ghost use Rattle.ring.specs.Sums.{dot};

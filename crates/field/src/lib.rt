@@ -1,3 +1,5 @@
+#![tactic(auto)]
+
 ghost use Rattle.std.specs.Prelude.{◌≡◌, T, ◌↔◌, map, ◌≢◌};
 ghost use Rattle.ring.specs.Rings.{RingOn, integer};
 ghost use Rattle.ring.specs.Sums.{dot};
@@ -38,10 +40,6 @@ pub trait Field: Copy {
     fn same(self, other: Self) -> bool
         ensures { T result ↔ (value self ≡ value other) };
 
-    // The element whose product with this one is one; there is one exactly where this one is not zero.
-    fn inverse(self) -> Option<Self>
-        ensures { Inverts ring value (value self) result };
-
     // The n-fold sum of one, negated for a negative n.
     fn from_i64(n: i64) -> Self
         ensures { value result ≡ integer ring n };
@@ -73,4 +71,11 @@ pub trait Field: Copy {
         }
         Self::sum_done(sum)
     }
+}
+
+// A field in which every element but zero has an inverse.
+pub trait InverseField: Field {
+    // The element whose product with this one is one; there is one exactly where this one is not zero.
+    fn inverse(self) -> Option<Self>
+        ensures { Inverts Self.ring Self.value (Self.value self) result };
 }

@@ -1,3 +1,5 @@
+#![tactic(auto)]
+
 use folding::output::fold_text;
 use std::io;
 use std::io::Read;

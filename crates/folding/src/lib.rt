@@ -1,3 +1,5 @@
+#![tactic(auto)]
+
 ghost use Rattle.folding.specs.Answers.{Folds};
 
 use field::Field;

@@ -1,3 +1,5 @@
+#![tactic(auto)]
+
 ghost use Rattle.lanes.specs.Fours.{fours, each, each_hom};
 ghost use Rattle.std.specs.Prelude.{refl};
 

@@ -1,3 +1,5 @@
+#![tactic(auto)]
+
 ghost use Rattle.pairs.specs.Twos.{twos, plain, plain_hom};
 ghost use Rattle.std.specs.Prelude.{refl};
 

@@ -1,3 +1,5 @@
+#![tactic(auto)]
+
 ghost use Rattle.std.specs.Prelude.{IfOk, vec_len};
 ghost use Rattle.sheet.specs.Answers.{Reads};
 ghost use Rattle.sheet.specs.Grammar.{GrammarHolds};

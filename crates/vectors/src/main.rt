@@ -1,3 +1,5 @@
+#![tactic(auto)]
+
 use crate::answers::answer;
 use crate::cases::{Case, KINDS, read_case};
 use field::residue::{BabyBear, F17, KoalaBear};

@@ -1,3 +1,5 @@
+#![tactic(auto)]
+
 use crate::arithmetic::{tell_inverse, tell_lanes, tell_products, tell_root};
 use field::residue::F17;
 use folding::columns::rows_text;
