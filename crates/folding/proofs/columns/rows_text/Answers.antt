@@ -5,8 +5,8 @@ use Rattle.folding.specs.Columns.{entry_of, rows_of}
 use Rattle.folding.proofs.Pads.{rows_more, columns_read}
 use Rattle.folding.proofs.columns.rows_text.Goals as goal
 
-pub returns-in-err-push-entry : goal.returns-in-err-push-entry
-returns-in-err-push-entry g c =
+pub returns-in_err-push_entry : goal.returns-in_err-push_entry
+returns-in_err-push_entry g c =
     let p = err_from_is_err_and c.from-residual.result c.from-residual.ensures.1 in
     rw p.1 (record { rows = tt; columns = columns_read })
 
@@ -14,8 +14,8 @@ pub loop-k-preserved : goal.loop-k-preserved
 loop-k-preserved g c =
     let k = c.loop-k.k in
     let x = c.index-elements-k.result in
-    c.in-ok-push-entry.ensures ∙ ap (λ l. l ++ entry_of c.args.width k c.as-canonical-u32.result) c.loop-k.invariant
-    ∙ rows_more (λ x. x.value) c.args.width k c.args.elements.now x c.as-canonical-u32.result (omega arith) c.index-elements-k.is c.as-canonical-u32.ensures.value
+    c.in_ok-push_entry.ensures ∙ ap (λ l. l ++ entry_of c.args.width k c.as_canonical_u32.result) c.loop-k.invariant
+    ∙ rows_more (λ x. x.value) c.args.width k c.args.elements.now x c.as_canonical_u32.result (omega arith) c.index-elements-k.is c.as_canonical_u32.ensures.value
 
 pub returns : goal.returns
 returns g c =

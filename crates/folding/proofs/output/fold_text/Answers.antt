@@ -9,7 +9,7 @@ returns-in-Ok c =
     let f = c.in-Ok.ensures in
     let n = c.in-Ok.folded.sheet.width in
     let holds = f.0.2 in
-    let same = ap (λ l. rows_of n 0 (map (λ x. x.value) l)) c.as-slice.ensures.value in
-    made_as c.rows-text.result string_bytes _ _
+    let same = ap (λ l. rows_of n 0 (map (λ x. x.value) l)) c.as_slice.ensures.value in
+    made_as c.rows_text.result string_bytes _ _
     (same ∙ printed c.args.bytes.now n (vec_items c.in-Ok.folded.sheet.column) (vec_items c.in-Ok.folded.matrix) f.0.0 f.0.1 holds.width holds.column f.1)
-    c.rows-text.ensures.rows
+    c.rows_text.ensures.rows

@@ -8,5 +8,5 @@ returns g c =
     let R = g.F.Field.ring in
     let v = g.F.Field.value in
     let t = g.F.Field.total in
-    (λ i. (c.sum-more.ensures i, c.sum-more-2.ensures i))
+    (λ i. (c.sum_more.ensures i, c.sum_more-2.ensures i))
     ∙ ap (λ (w : Two R). (R.add (t c.args.sum.a) w.0, R.add (t c.args.sum.b) w.1)) (by_plain R (v c.args.element.a, v c.args.element.b) (v c.args.factor))

@@ -13,8 +13,8 @@ loop-k-init g c = refl
 
 pub loop-k-preserved : goal.loop-k-preserved
 loop-k-preserved g c =
-    written_more g.F.Field.value _ c.loop-k.dense c.loop-k.k c.from-i64.result (omega arith) c.loop-k.invariant
-    (c.from-i64.ensures ∙ ap (integer g.F.Field.ring) (to_z-of_z w64 _ (search rules)))
+    written_more g.F.Field.value _ c.loop-k.dense c.loop-k.k c.from_i64.result (omega arith) c.loop-k.invariant
+    (c.from_i64.ensures ∙ ap (integer g.F.Field.ring) (to_z-of_z w64 _ (search rules)))
 
 pub returns : goal.returns
 returns g c =

@@ -11,11 +11,11 @@ returns-then-rest-lt-COLUMNS c =
     let k = length c.loop-n.numbers - c.loop-n.n-index in
     sym c.loop-n.invariant.0 ∙ line_none k c.loop-n.rest.now (take c.loop-n.n-index c.loop-n.numbers) (omega arith) (field_short c.loop-n.rest.now (omega arith))
 
-pub returns-in-err-n : goal.returns-in-err-n
-returns-in-err-n c =
+pub returns-in_err-n : goal.returns-in_err-n
+returns-in_err-n c =
     let k = length c.loop-n.numbers - c.loop-n.n-index in
     let xs = c.loop-n.rest.now in
-    let f = field_full xs (omega arith) ∙ ap text_value (sym c.split-at.ensures.front) ∙ sym c.in-err-n.ensures in
+    let f = field_full xs (omega arith) ∙ ap text_value (sym c.split_at.ensures.front) ∙ sym c.in_err-n.ensures in
     rw c.from-residual.ensures (sym c.loop-n.invariant.0 ∙ line_none k xs (take c.loop-n.n-index c.loop-n.numbers) (omega arith) f)
 
 pub loop-n-preserved : goal.loop-n-preserved
@@ -23,7 +23,7 @@ loop-n-preserved c =
     let ns = c.loop-n.numbers in
     let i = c.loop-n.n-index in
     let xs = c.loop-n.rest.now in
-    let z = c.in-ok-n.field-0 in
+    let z = c.in_ok-n.field-0 in
     let fits : SFits w64 z = search rules in
     let z' = to_z w64 (of_z w64 z) in
     let here : i < length ns = omega arith in
@@ -31,8 +31,8 @@ loop-n-preserved c =
     let l = length-set ns i z' in
     let m = length (set ns i z') - (i + 1) in
     let e : length ns - i ≡ suc m = omega arith in
-    let t = c.in-ok-n.ensures ∙ ap text_value c.split-at.ensures.front in
-    let b = c.split-at.ensures.back in (
+    let t = c.in_ok-n.ensures ∙ ap text_value c.split_at.ensures.front in
+    let b = c.split_at.ensures.back in (
       (λ t. after_all (p t) (line_at m (b t))) ∙ line_some m (length ns - i) xs (take i ns) z e (omega arith) t ∙ c.loop-n.invariant.0,
       ap (drop (11 * m + 1)) b ∙ drop_some m (length ns - i) xs e ∙ c.loop-n.invariant.1,
     )

@@ -11,9 +11,9 @@ loop-n-preserved g c =
     let zs = c.args.numbers.now in
     let z = get_or zs c.loop-n.n-index (pos 0) in
     let s : SFits w64 z = search rules in
-    let p : vec_items c.push.new.self ≡ vec_items c.loop-n.constants ++ (c.from-i64.result ∷ []) = search rules in
-    appended f.value (integer f.ring) (vec_items c.loop-n.constants) (vec_items c.push.new.self) (map f.value (vec_items c.args.constants.now)) zs c.loop-n.n-index c.from-i64.result p
-    (c.from-i64.ensures ∙ ap (integer f.ring) (to_z-of_z w64 z s)) (omega arith) c.loop-n.invariant
+    let p : vec_items c.push.new.self ≡ vec_items c.loop-n.constants ++ (c.from_i64.result ∷ []) = search rules in
+    appended f.value (integer f.ring) (vec_items c.loop-n.constants) (vec_items c.push.new.self) (map f.value (vec_items c.args.constants.now)) zs c.loop-n.n-index c.from_i64.result p
+    (c.from_i64.ensures ∙ ap (integer f.ring) (to_z-of_z w64 z s)) (omega arith) c.loop-n.invariant
 
 pub returns : goal.returns
 returns g c =

@@ -12,7 +12,7 @@ pub unreachable-requires : goal.unreachable-requires
 unreachable-requires g c =
     let long : length c.loop.row ≡ c.args.width = search rules in
     let n = c.args.count - c.loop.counter in
-    let bad = ap (λ k. line_at k c.loop.rest.now) (sym long) ∙ c.in-default.ensures in
+    let bad = ap (λ k. line_at k c.loop.rest.now) (sym long) ∙ c.in_default.ensures in
     ok_not_err (sym c.loop.invariant.1 ∙ rows_bad c.args.width n (3 + c.loop.counter) c.loop.rest.now c.loop.invariant.0 (omega arith) bad) c.requires.checked
 
 pub loop-preserved : goal.loop-preserved
@@ -24,13 +24,13 @@ loop-preserved g c =
     let m = c.args.count - (c.loop.counter + 1) in
     let e : n ≡ suc m = omega arith in
     let zs = c.loop.invariant.0 in
-    let ws = c.read-line.new.numbers in
+    let ws = c.read_line.new.numbers in
     let h = c.in-Some.ensures in
     let line = ap (λ k. line_at k c.loop.rest.now) (sym long) ∙ h.0 in
     let rest = h.1 ∙ ap (λ k. drop (11 * k + 1) c.loop.rest.now) long in (
       zs ++ ws,
       rows_more k m n (3 + c.loop.counter) (3 + (c.loop.counter + 1)) c.loop.rest.now c.in-Some.more.now zs ws e (omega arith) rest line ∙ c.loop.invariant.1,
-      c.in-ok-append.ensures ∙ ap (λ l. l ++ map f ws) c.loop.invariant.2 ∙ sym (map-append f zs ws),
+      c.in_ok-append.ensures ∙ ap (λ l. l ++ map f ws) c.loop.invariant.2 ∙ sym (map-append f zs ws),
     )
 
 pub returns : goal.returns

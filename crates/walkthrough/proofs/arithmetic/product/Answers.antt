@@ -11,6 +11,6 @@ widened z n w = to_z-of_z w64 (to_z w32 (of_z w32 z)) w ∙ to_z-of_z w32 z n
 pub returns : goal.returns
 returns g c =
     let R = g.F.Field.ring in
-    let a = c.from-i64.ensures ∙ ap (integer R) (widened c.args.a (search rules) (search rules)) in
-    let b = c.from-i64-2.ensures ∙ ap (integer R) (widened c.args.b (search rules) (search rules)) in
+    let a = c.from_i64.ensures ∙ ap (integer R) (widened c.args.a (search rules) (search rules)) in
+    let b = c.from_i64-2.ensures ∙ ap (integer R) (widened c.args.b (search rules) (search rules)) in
     c.mul.ensures ∙ (λ i. R.mul (a i) (b i)) ∙ sym (integer-mul R c.args.a c.args.b)

@@ -3,4 +3,4 @@ use Rattle.monomial.proofs.algebras.LanesPermutationMonomial.injective_exp_root_
 
 pub returns : goal.returns
 returns g c =
-    four_root_of g.F.Field.ring g.F.SBoxField.exponent _ _ c.sbox-root.ensures c.sbox-root-2.ensures c.sbox-root-3.ensures c.sbox-root-4.ensures
+    four_root_of g.F.Field.ring g.F.SBoxField.exponent _ _ c.sbox_root.ensures c.sbox_root-2.ensures c.sbox_root-3.ensures c.sbox_root-4.ensures
