@@ -7,12 +7,12 @@ use Rattle.folding.proofs.fold.Goals as goal
 
 pub returns-in_err-sheet : goal.returns-in_err-sheet
 returns-in_err-sheet g c =
-    let p = err_from_is_err_and c.from-residual.result c.from-residual.ensures.1 in
+    let p = err_from_is_err_and c.from_residual.result c.from_residual.ensures.1 in
     rw (p.1, p.2) c.in_err-sheet.ensures.reads
 
 pub returns-in_err-matrix : goal.returns-in_err-matrix
 returns-in_err-matrix g c =
-    let p = err_from_is_err_and c.from-residual-in_err-matrix.result c.from-residual-in_err-matrix.ensures.1 in
+    let p = err_from_is_err_and c.from_residual-in_err-matrix.result c.from_residual-in_err-matrix.ensures.1 in
     let r = c.in_ok-sheet.ensures.reads in
     rw (p.1, p.2) (r.0, r.1)
 

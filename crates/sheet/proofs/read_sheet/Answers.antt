@@ -11,12 +11,12 @@ use Rattle.sheet.proofs.read_sheet.Goals as goal
 
 pub returns-in_err-sizes : goal.returns-in_err-sizes
 returns-in_err-sizes g c =
-    let p = err_from_is_err_and c.from-residual.result c.from-residual.ensures.1 in
+    let p = err_from_is_err_and c.from_residual.result c.from_residual.ensures.1 in
     rw (p.1, p.2) (record { reads = c.in_err-sizes.ensures; shape = tt; grammar = grammar_holds })
 
 pub returns-in_err-column : goal.returns-in_err-column
 returns-in_err-column g c =
-    let p = err_from_is_err_and c.from-residual-in_err-column.result c.from-residual-in_err-column.ensures.1 in
+    let p = err_from_is_err_and c.from_residual-in_err-column.result c.from_residual-in_err-column.ensures.1 in
     rw (p.1, p.2) (record { reads = checked c.args.bytes.now _ c.in_ok-sizes.ensures; shape = tt; grammar = grammar_holds })
 
 pub overflow_add-rounds_f : goal.overflow_add-rounds_f
@@ -24,7 +24,7 @@ overflow_add-rounds_f g c = let h = c.in_ok-sizes.ensures.bounds in search rules
 
 pub returns-in_err-constants : goal.returns-in_err-constants
 returns-in_err-constants g c =
-    let p = err_from_is_err_and c.from-residual-in_err-constants.result c.from-residual-in_err-constants.ensures.1 in
+    let p = err_from_is_err_and c.from_residual-in_err-constants.result c.from_residual-in_err-constants.ensures.1 in
     rw (p.1, p.2) (record { reads = checked c.args.bytes.now _ c.in_ok-sizes.ensures; shape = tt; grammar = grammar_holds })
 
 pub returns : goal.returns
@@ -36,7 +36,7 @@ returns g c =
     let h = c.in_ok-sizes.ensures in
     let k = c.in_ok-constants.ensures in
     let all : n - 0 ≡ n = omega arith in
-    let column = c.in_ok-column.ensures.items-if-clones-equal (λ x y e. e) ∙ ap (λ j. take j form.column) all in
+    let column = c.in_ok-column.ensures.items_if_clones_equal (λ x y e. e) ∙ ap (λ j. take j form.column) all in
     let m : Parameters = record { width = n; full = f; partial = q; column = take n form.column; constants = k.0 } in
     let e : sheet_of c.args.bytes.now ≡ Ok m = h.says ∙ ap (with_column n f q (Some (take n form.column))) k.1 in
     let w = shaped (lines c.args.bytes.now) m (opened (lines c.args.bytes.now) m e) in

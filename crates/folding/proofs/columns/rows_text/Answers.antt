@@ -7,7 +7,7 @@ use Rattle.folding.proofs.columns.rows_text.Goals as goal
 
 pub returns-in_err-push_entry : goal.returns-in_err-push_entry
 returns-in_err-push_entry g c =
-    let p = err_from_is_err_and c.from-residual.result c.from-residual.ensures.1 in
+    let p = err_from_is_err_and c.from_residual.result c.from_residual.ensures.1 in
     rw p.1 (record { rows = tt; columns = columns_read })
 
 pub loop-k-preserved : goal.loop-k-preserved

@@ -16,7 +16,7 @@ returns-in_err-n c =
     let k = length c.loop-n.numbers - c.loop-n.n-index in
     let xs = c.loop-n.rest.now in
     let f = field_full xs (omega arith) ∙ ap text_value (sym c.split_at.ensures.front) ∙ sym c.in_err-n.ensures in
-    rw c.from-residual.ensures (sym c.loop-n.invariant.0 ∙ line_none k xs (take c.loop-n.n-index c.loop-n.numbers) (omega arith) f)
+    rw c.from_residual.ensures (sym c.loop-n.invariant.0 ∙ line_none k xs (take c.loop-n.n-index c.loop-n.numbers) (omega arith) f)
 
 pub loop-n-preserved : goal.loop-n-preserved
 loop-n-preserved c =
