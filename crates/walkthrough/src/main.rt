@@ -1,14 +1,15 @@
 #![tactic(auto)]
 
-use crate::arithmetic::{tell_inverse, tell_lanes, tell_products, tell_root};
-use field::residue::F17;
+ghost use Rattle.std.specs.Prelude.{◌≡◌, ◌*ℤ◌};
+ghost use Rattle.ring.specs.Rings.{integer};
+
+use field::Field;
+use field::residue::{F17, Modulus, Residue};
 use folding::columns::rows_text;
 use folding::{Folded, fold};
 use sheet::error::SheetError;
 use std::io;
 use worked::worked_values;
-
-mod arithmetic;
 
 // A customer's parameter sheet.
 const SHEET: &str =
@@ -21,10 +22,6 @@ fn main(rt: HostRuntime) -> io::Result<()> {
     rt.print(SHEET)?;
     tell(&rt, SHEET.as_bytes())?;
     tell_products(&rt)?;
-    tell_inverse(&rt)?;
-    tell_root(&rt)?;
-    tell_lanes(&rt)?;
-    tell_trust(&rt)?;
     tell_small_field(&rt)?;
     tell_damaged(&rt)
 }
@@ -56,29 +53,55 @@ fn tell_folded(rt: &HostRuntime, folded: &Folded<F17>) -> io::Result<()> {
     rt.print(rows_text(rt.alloc(), width, folded.matrix.as_slice())?.as_str())
 }
 
-fn tell_trust(rt: &HostRuntime) -> io::Result<()> {
-    rt.println(
-        "8. Were one reduction wrong, bench, card and verifier would still meet: they reduce alike.\n   Only a counterparty with an arithmetic of its own would find another result.\n   No test among the three would show it, so the arithmetic is proved.",
+// The product of the elements for `a` and `b`: the element for the whole number `a` times `b`, in every field.
+fn product<F: Field>(a: i32, b: i32) -> F
+    ensures { F.Field.value result ≡ integer F.Field.ring (a *ℤ b) }
+{
+    F::from_i64(a as i64).mul(F::from_i64(b as i64))
+}
+
+// The field's product beside the remainder of the product of whole numbers.
+fn tell_product<const P: u32>(rt: &HostRuntime, a: i32, b: i32) -> io::Result<()>
+where
+    Residue<P>: Modulus<P>,
+{
+    let residue = product::<Residue<P>>(a, b).as_canonical_u32();
+    let whole = a as i64 * b as i64;
+    let remainder = whole.rem_euclid(P as i64);
+    let verdict = if residue as i64 == remainder {
+        "agree"
+    } else {
+        "DIFFER"
+    };
+    println!(rt;
+        "   modulo {P}: {a} times {b} gives {residue}, and {whole} leaves {remainder}: they {verdict}"
     )
 }
 
-fn tell_small_field(rt: &HostRuntime) -> io::Result<()> {
-    let worked = worked_values();
-    let [minus_one, minus_modulus, least] = worked.entered;
+fn tell_products(rt: &HostRuntime) -> io::Result<()> {
     rt.println(
-        "9. Whole numbers of either sign enter a field as sums of ones. In the field of 17:",
+        "4. The bench that prepares, the card that runs and the verifier share one arithmetic.\n   So its products are held to those of whole numbers:",
+    )?;
+    tell_product::<17>(rt, -5, 7)?;
+    tell_product::<17>(rt, i32::MIN, i32::MAX)?;
+    tell_product::<2130706433>(rt, 65536, 65537)?;
+    tell_product::<2130706433>(rt, i32::MIN, i32::MAX)?;
+    tell_product::<2013265921>(rt, 65536, 65537)?;
+    tell_product::<2013265921>(rt, i32::MAX, i32::MAX)
+}
+
+fn tell_small_field(rt: &HostRuntime) -> io::Result<()> {
+    let [minus_one, minus_modulus, least] = worked_values();
+    rt.println(
+        "5. Whole numbers of either sign enter a field as sums of ones. In the field of 17:",
     )?;
     println!(rt;
         "   -1 gives {minus_one}, -17 gives {minus_modulus}, -9223372036854775808 gives {least}."
-    )?;
-    let [a, b] = worked.cube_of_other;
-    println!(rt;
-        "   On pairs a + b u with u u = 3 the cube has no root: 8 + 2u has the cube {a} + {b}u, as 1 has."
     )
 }
 
 fn tell_damaged(rt: &HostRuntime) -> io::Result<()> {
-    rt.println("10. A plus sign on line 3: the line is answered, and nothing is guessed.")?;
+    rt.println("6. A plus sign on line 3: the line is answered, and nothing is guessed.")?;
     tell_with(rt, 66, b'+')?;
     rt.println("   A width of 1:")?;
     tell_with(rt, 10, b'1')?;

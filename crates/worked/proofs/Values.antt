@@ -1,33 +1,14 @@
-use Rattle.std.proofs.Common.{◌≡◌, ℕ, ◌^◌, [], ◌∷◌, ℤ, pos, neg_ℤ, nat_abs, sym, refl, ◌∙◌, lit<}
+use Rattle.std.proofs.Common.{◌≡◌, ℕ, ◌^◌, ℤ, pos, neg_ℤ, nat_abs, sym, refl, ◌∙◌, lit<}
 use native.Mathlib.Fin
 use Rattle.std.specs.Int.{int_rem_euclid}
-use Rattle.ring.specs.Rings.{integer, power, whole}
+use Rattle.ring.specs.Rings.{integer}
 use Rattle.ring.specs.Residues.{Z17}
-use Rattle.ring.proofs.ResidueLaws.{integer_at, whole_at}
-use Rattle.pairs.specs.Twos.{Two, twos}
-use Rattle.worked.specs.Worked.{at, pair, cube_of, WorkedValues}
+use Rattle.ring.proofs.ResidueLaws.{integer_at}
+use Rattle.worked.specs.Worked.{at, WorkedValues}
 
 -- a remainder is computed, a sum of so many ones is not
 from : (z : ℤ) (n : ℕ) → nat_abs (int_rem_euclid z (pos 17)) ≡ (at n).0 → integer Z17 z ≡ at n
 from z n e = Fin.val_path (sym (integer_at 17 (lit< tt) z) ∙ e)
-
-path : (x : Two Z17) (a b : ℕ) → x.0.0 ≡ (at a).0 → x.1.0 ≡ (at b).0 → x ≡ pair a b
-path x a b p q = λ i. (Fin.val_path {i = x.0} {j = at a} p i, Fin.val_path {i = x.1} {j = at b} q i)
-
-cube_one : power (twos Z17) 3 (pair 1 0) ≡ pair 1 0
-unfolding power whole
-cube_one = path (power (twos Z17) 3 (pair 1 0)) 1 0 refl refl
-
-cube_other : power (twos Z17) 3 (pair 8 2) ≡ pair 1 0
-unfolding power whole
-cube_other = path (power (twos Z17) 3 (pair 8 2)) 1 0 refl refl
-
--- a cube by residues, once its value is known
-pub cube_answer : (a b : ℕ) → power (twos Z17) 3 (pair a b) ≡ pair 1 0 → cube_of (pos a) (pos b) ≡ 1 ∷ 0 ∷ []
-cube_answer a b e =
-    let entered : power (twos Z17) 3 (integer Z17 (pos a), integer Z17 (pos b)) ≡ pair 1 0 =
-    (λ i. power (twos Z17) 3 (whole_at 17 (lit< tt) a i, whole_at 17 (lit< tt) b i)) ∙ e in
-    λ i. (entered i).0.0 ∷ (entered i).1.0 ∷ []
 
 pub worked_values_lem : WorkedValues
 worked_values_lem =
@@ -35,6 +16,4 @@ worked_values_lem =
       from_minus_one = from (neg_ℤ (pos 1)) 16 refl;
       from_minus_seventeen = from (neg_ℤ (pos 17)) 0 refl;
       from_least = from (neg_ℤ (pos (2 ^ 63))) 8 refl;
-      cube_of_one = cube_one;
-      cube_of_other = cube_other;
     }

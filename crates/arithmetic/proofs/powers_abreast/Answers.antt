@@ -1,7 +1,7 @@
 use Rattle.std.proofs.Common.{ap, ◌∙◌}
 use Rattle.lanes.specs.Fours.{Four}
 use Rattle.monomial.proofs.FourRoots.{four_power}
-use Rattle.walkthrough.proofs.arithmetic.powers_abreast.Goals as goal
+use Rattle.arithmetic.proofs.powers_abreast.Goals as goal
 
 pub returns : goal.returns
 returns g c =

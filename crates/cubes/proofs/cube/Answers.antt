@@ -2,7 +2,7 @@ use Rattle.std.proofs.Common.{[], ◌∷◌, ap, ◌∙◌, to_z-of_z}
 use Rattle.ring.specs.Rings.{integer, power}
 use Rattle.ring.specs.Residues.{Z17}
 use Rattle.pairs.specs.Twos.{Two, twos}
-use Rattle.worked.proofs.cube.Goals as goal
+use Rattle.cubes.proofs.cube.Goals as goal
 
 pub returns : goal.returns
 returns c =

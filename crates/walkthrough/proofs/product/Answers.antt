@@ -2,7 +2,7 @@ use Rattle.std.proofs.Common.{◌≡◌, ℤ, sym, ap, ◌∙◌, w32, w64, SFit
 use Rattle.std.proofs.lemmas.Int.{to_z-of_z}
 use Rattle.ring.specs.Rings.{integer}
 use Rattle.ring.proofs.Integers.{integer-mul}
-use Rattle.walkthrough.proofs.arithmetic.product.Goals as goal
+use Rattle.walkthrough.proofs.product.Goals as goal
 
 -- a number of 32 bits, cast to 64, stays the number that it is
 widened : (z : ℤ) → SFits w32 z → SFits w64 (to_z w32 (of_z w32 z)) → to_z w64 (of_z w64 (to_z w32 (of_z w32 z))) ≡ z
