@@ -103,7 +103,7 @@ fn numbers(rt: HostRuntime) -> Result<(), Fail> {
         return Ok(());
     };
     assert!(rt; sheet.width == 2 && sheet.rounds_f == 6 && sheet.rounds_p == 1);
-    assert!(rt; sheet.column.as_slice() == &[-1, 18]);
+    assert!(rt; sheet.column.as_slice() == [-1, 18].as_slice());
     assert_eq!(rt; sheet.constants.len(), 14);
     let Some(last) = sheet.constants.last() else {
         assert!(rt; false);
