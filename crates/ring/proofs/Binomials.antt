@@ -1,5 +1,5 @@
 -- Binomial numbers, and the powers of 1 + x.
-use Rattle.std.proofs.Common.{◌≡◌, ℕ, zero, suc, ◌+◌, ◌*◌, ◌<◌, ◌≤◌, sym, refl, ap, ◌∙◌, arith}
+use Rattle.std.proofs.Common.{◌≡◌, ℕ, zero, suc, ◌+◌, ◌*◌, ◌<◌, sym, refl, ap, ◌∙◌, arith}
 use native.Mathlib.Nat
 use Rattle.ring.specs.Rings.{RingOn, power, whole}
 use Rattle.ring.specs.Sums.{sum}
