@@ -1,5 +1,5 @@
 -- Four values of a ring, position by position.
-use Rattle.std.specs.Prelude.{◌≡◌, refl}
+use Rattle.std.specs.Prelude.{refl}
 use Rattle.ring.specs.Rings.{Ring, RingOn, Hom}
 
 module _ (R : RingOn) where

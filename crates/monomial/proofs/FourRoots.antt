@@ -1,5 +1,5 @@
 -- Powers and roots of four values, position by position.
-use mathlib.Core.Path.{◌≡◌, refl, sym, ap, ◌∙◌}
+use mathlib.Core.Path.{◌≡◌, sym, ap, ◌∙◌}
 use Prim.Native.Nat.{ℕ, zero, suc}
 use Rattle.ring.specs.Rings.{RingOn, power}
 use Rattle.ring.specs.Roots.{Root, RootOf}

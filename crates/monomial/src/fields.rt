@@ -3,7 +3,7 @@ ghost use Rattle.ring.specs.Roots.{RootOf};
 
 use crate::exponentiation::exp_u64;
 use field::Field;
-use field::residue::{Modulus, Residue};
+use field::residue::{PrimeModulus, Residue};
 
 // A field that fixes the exponent of the S-boxes over it.
 pub trait SBoxField: Field {
@@ -23,23 +23,26 @@ pub trait RootedField: SBoxField {
 
 impl<const P: u32> SBoxField for Residue<P>
 where
-    Residue<P>: Modulus<P>,
+    Residue<P>: PrimeModulus<P>,
 {
-    ghost exponent = { degree };
+    ghost exponent = { bound-1.degree };
 
-    ghost least = { least };
+    ghost least = { bound-1.least };
 
     fn sbox_degree() -> u8 {
-        <Residue<P> as Modulus<P>>::power_exponent()
+        <Residue<P> as PrimeModulus<P>>::power_exponent()
     }
 }
 
 // The root is a power too, by Fermat's theorem.
 impl<const P: u32> RootedField for Residue<P>
 where
-    Residue<P>: Modulus<P>,
+    Residue<P>: PrimeModulus<P>,
 {
     fn sbox_root(self) -> Residue<P> {
-        exp_u64::<Residue<P>, Residue<P>>(self, <Residue<P> as Modulus<P>>::root_exponent() as u64)
+        exp_u64::<Residue<P>, Residue<P>>(
+            self,
+            <Residue<P> as PrimeModulus<P>>::root_exponent() as u64,
+        )
     }
 }

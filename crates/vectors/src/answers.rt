@@ -1,7 +1,7 @@
 use crate::cases::Kind;
 use algebra::Algebra;
-use field::Field;
-use field::residue::{Modulus, Residue};
+use field::residue::{PrimeModulus, Residue};
+use field::{Field, InverseField};
 use lanes::Lanes;
 use monomial::fields::RootedField;
 use monomial::{InjectiveMonomial, PermutationMonomial};
@@ -9,13 +9,13 @@ use pairs::Pair;
 use std::alloc::{AllocError, Global};
 
 // A field whose elements are written as numbers.
-pub trait Canonical: RootedField {
+pub trait Canonical: RootedField + InverseField {
     fn canonical(self) -> i64;
 }
 
 impl<const P: u32> Canonical for Residue<P>
 where
-    Residue<P>: Modulus<P>,
+    Residue<P>: PrimeModulus<P>,
 {
     fn canonical(self) -> i64 {
         self.as_canonical_u32() as i64
