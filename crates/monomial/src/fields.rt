@@ -25,9 +25,9 @@ impl<const P: u32> SBoxField for Residue<P>
 where
     Residue<P>: PrimeModulus<P>,
 {
-    ghost exponent = { bound-1.degree };
+    ghost exponent = { ⟦<Residue<P> as PrimeModulus<P>>⟧.degree };
 
-    ghost least = { bound-1.least };
+    ghost least = { ⟦<Residue<P> as PrimeModulus<P>>⟧.least };
 
     fn sbox_degree() -> u8 {
         <Residue<P> as PrimeModulus<P>>::power_exponent()
