@@ -126,6 +126,7 @@ power-round power_round
 power-seven power_seven
 power-square power_square
 power-three power_three
+power_zero power-zero
 prime-17 prime_17
 prime-baby-bear prime_baby_bear
 prime-koala-bear prime_koala_bear
@@ -157,6 +158,7 @@ text-plain text_plain
 text-unbroken text_unbroken
 text-value text_value
 two-laws two_laws
+two-mul two_mul
 whole-at whole_at
 whole-c whole_c
 whole-size whole_size

@@ -3,13 +3,13 @@ use mathlib.Core.Path.{◌≡◌, sym, ap, ◌∙◌}
 use Prim.Native.Nat.{ℕ, zero, suc}
 use Rattle.ring.specs.Rings.{RingOn, power}
 use Rattle.ring.specs.Roots.{Root, RootOf}
-use Rattle.ring.proofs.Powers.{power_zero, power-suc}
+use Rattle.ring.proofs.Powers.{power-zero, power-suc}
 use Rattle.ring.proofs.Roots.{root_same}
 use Rattle.lanes.specs.Fours.{Four, fours, by_one, by_two}
 
 module _ (R : RingOn) where
   pub four_power : (n : ℕ) (x : Four R) → power (fours R) n x ≡ by_one R (power R n) x
-  four_power zero x = power_zero (fours R) x ∙ λ i. (sym (power_zero R x.0) i, sym (power_zero R x.1) i, sym (power_zero R x.2) i, sym (power_zero R x.3) i)
+  four_power zero x = power-zero (fours R) x ∙ λ i. (sym (power-zero R x.0) i, sym (power-zero R x.1) i, sym (power-zero R x.2) i, sym (power-zero R x.3) i)
   four_power (suc n) x =
       power-suc (fours R) n x
       ∙ ap (by_two R R.mul x) (four_power n x)

@@ -15,8 +15,8 @@ module _ (R : RingOn) where
   abbrev pub three : V
   three = whole R 3
 
-  abbrev pub two-mul : Two → Two → Two
-  two-mul x y = (add (mul x.0 y.0) (mul three (mul x.1 y.1)), add (mul x.0 y.1) (mul x.1 y.0))
+  abbrev pub two_mul : Two → Two → Two
+  two_mul x y = (add (mul x.0 y.0) (mul three (mul x.1 y.1)), add (mul x.0 y.1) (mul x.1 y.0))
 
   -- a value, with no u
   abbrev pub plain : V → Two
@@ -47,7 +47,7 @@ module _ (R : RingOn) where
   add-second : (a b c d e f : V) → add (mul a (add d f)) (mul b (add c e)) ≡ add (add (mul a d) (mul b c)) (add (mul a f) (mul b e))
   add-second a b c d e f = simp ring
 
-  pub two_laws : Ring {V = Two} (nil, nil) (one, nil) (λ x y. (add x.0 y.0, add x.1 y.1)) two-mul (λ x. (neg x.0, neg x.1))
+  pub two_laws : Ring {V = Two} (nil, nil) (one, nil) (λ x y. (add x.0 y.0, add x.1 y.1)) two_mul (λ x. (neg x.0, neg x.1))
   two_laws =
       record {
         is_set = λ x y p q. λ i j. (is_set x.0 y.0 (λ k. (p k).0) (λ k. (q k).0) i j, is_set x.1 y.1 (λ k. (p k).1) (λ k. (q k).1) i j);
@@ -62,7 +62,7 @@ module _ (R : RingOn) where
       }
 
   abbrev pub twos : RingOn
-  twos = record { V = Two; nil = (nil, nil); one = (one, nil); add = λ x y. (add x.0 y.0, add x.1 y.1); mul = two-mul; neg = λ x. (neg x.0, neg x.1); laws = two_laws }
+  twos = record { V = Two; nil = (nil, nil); one = (one, nil); add = λ x y. (add x.0 y.0, add x.1 y.1); mul = two_mul; neg = λ x. (neg x.0, neg x.1); laws = two_laws }
 
   pub plain_hom : Hom R twos plain
   plain_hom =

@@ -6,7 +6,7 @@ use Rattle.ring.specs.Sums.{sum}
 use Rattle.ring.proofs.RingLaws
 use Rattle.ring.proofs.RingLaws.{ring}
 use Rattle.ring.proofs.Integers.{whole-zero, whole-suc, whole-add}
-use Rattle.ring.proofs.Powers.{power_zero, power-suc}
+use Rattle.ring.proofs.Powers.{power-zero, power-suc}
 use Rattle.ring.proofs.SumLaws.{sum_cong, sum-add, sum-mul, sum_first, sum_last, sum_one}
 
 abbrev pub binom : ℕ → ℕ → ℕ
@@ -41,7 +41,7 @@ module _ (R : RingOn) (x : R.V) where
 
   pub part_zero : (n : ℕ) → part n 0 ≡ R.one
   unfolding part
-  part_zero n = simp (ring, whole-suc R 0, whole-zero, power_zero)
+  part_zero n = simp (ring, whole-suc R 0, whole-zero, power-zero)
 
   part_past : (n : ℕ) → part n (suc n) ≡ R.nil
   unfolding part
@@ -59,7 +59,7 @@ module _ (R : RingOn) (x : R.V) where
 
   -- (1 + x) ^ n is the sum of its parts
   pub power_plus : (n : ℕ) → power R n (R.add R.one x) ≡ sum R (suc n) (part n)
-  power_plus zero = power_zero R _ ∙ sym (sum_one R (part 0) ∙ part_zero 0)
+  power_plus zero = power-zero R _ ∙ sym (sum_one R (part 0) ∙ part_zero 0)
   power_plus (suc n) =
       power-suc R n _ ∙ ap (R.mul (R.add R.one x)) (power_plus n)
       ∙ sym
