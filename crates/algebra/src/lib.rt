@@ -1,90 +1,67 @@
 #![tactic(auto)]
 
-ghost use Rattle.std.specs.Prelude.{map, ◌≡◌};
-ghost use Rattle.ring.specs.Rings.{RingOn, Hom};
+ghost use Rattle.std.specs.Prelude.{map, ◌≡◌, refl};
+ghost use Rattle.ring.specs.Rings.{Hom};
 ghost use Rattle.ring.specs.Sums.{dot};
 
 use field::Field;
+use ring::Ring;
+use std::ops::{Add, Mul};
 
-pub mod base;
+// A ring that holds an image of the field F. Adding or multiplying by an element of F means doing so with its image.
+// States are lists of elements of an algebra; constants, matrices and tables are of F.
+pub trait Algebra<F: Field>: Ring + From<F> + Add<F, Output = Self> + Mul<F, Output = Self> {
+    // the element as which an element of the field enters
+    ghost image: { F → Self };
 
-// Elements that mean values of a commutative ring which holds an image of the field F.
-// States are lists of such elements; constants, matrices and tables are of F.
-pub trait Algebra<F: Field>: Copy {
-    ghost over: { RingOn };
-
-    ghost means: { Self → over.V };
-
-    ghost image: { F → over.V };
-
-    // The image of a field element.
-    fn from_base(x: F) -> Self
-        ensures { means result ≡ image x };
-
-    fn nil() -> Self
-        ensures { means result ≡ over.nil };
-
-    fn unit() -> Self
-        ensures { means result ≡ over.one };
-
-    fn plus(self, other: Self) -> Self
-        ensures { means result ≡ over.add (means self) (means other) };
-
-    fn minus(self, other: Self) -> Self
-        ensures { means result ≡ over.add (means self) (over.neg (means other)) };
-
-    fn negated(self) -> Self
-        ensures { means result ≡ over.neg (means self) };
-
-    fn times(self, other: Self) -> Self
-        ensures { means result ≡ over.mul (means self) (means other) };
-
-    fn plus_base(self, other: F) -> Self
-        ensures { means result ≡ over.add (means self) (image other) };
-
-    fn times_base(self, other: F) -> Self
-        ensures { means result ≡ over.mul (means self) (image other) };
-
-    // The sum of the products over the positions that both lists have.
-    fn dot_product(left: &[Self], right: &[Self]) -> Self
-        ensures { means result ≡ dot over (map means left.now) (map means right.now) }
-    {
-        let count = left.len().min(right.len());
-        let mut total = Self::nil();
-        for i in 0..count {
-            total = total.plus(left[i].times(right[i]));
-        }
-        total
-    }
-
-    // A sum of products of elements with field elements that need not be reduced yet.
-    type Sum: Copy;
-
-    ghost total: { Self.Sum → over.V };
-
-    fn mixed_sum_none() -> Self::Sum
-        ensures { total result ≡ over.nil };
-
-    // One product more.
-    fn mixed_sum_more(sum: Self::Sum, element: Self, factor: F) -> Self::Sum
-        ensures { total result ≡ over.add (total sum) (over.mul (means element) (image factor)) };
-
-    // The element that the sum comes to.
-    fn mixed_sum_done(sum: Self::Sum) -> Self
-        ensures { means result ≡ total sum };
+    // One product of an element with a field element more.
+    fn mixed_sum_more(sum: <Self as Ring>::Sum, element: Self, factor: F) -> <Self as Ring>::Sum
+        ensures { Self.Ring.total result ≡ Self.Ring.ring.add (Self.Ring.total sum) (Self.Ring.ring.mul (Self.Ring.value element) (Self.Ring.value (image factor))) };
 
     // The sum of the products of elements with field elements over the positions that both lists have.
     fn mixed_dot_product(elements: &[Self], factors: &[F]) -> Self
-        ensures { means result ≡ dot over (map means elements.now) (map image factors.now) }
+        ensures { Self.Ring.value result ≡ dot Self.Ring.ring (map Self.Ring.value elements.now) (map (λ x. Self.Ring.value (image x)) factors.now) }
     {
-        let count = elements.len().min(factors.len());
-        let mut sum = Self::mixed_sum_none();
-        for i in 0..count {
-            sum = Self::mixed_sum_more(sum, elements[i], factors[i]);
-        }
-        Self::mixed_sum_done(sum)
+        let sum = elements
+            .iter()
+            .zip(factors)
+            .fold(Self::sum_none(), |sum, (x, y)| {
+                Self::mixed_sum_more(sum, *x, *y)
+            });
+        Self::sum_done(sum)
     }
 
     // the image depends on the value alone, and keeps zero, one, sums and products
-    ghost base: { (f : F.Field.ring.V → over.V) × Hom F.Field.ring over f × ((x : F) → image x ≡ f (F.Field.value x)) };
+    ghost base: { (f : F.Ring.ring.V → Self.Ring.ring.V) × Hom F.Ring.ring Self.Ring.ring f × ((x : F) → Self.Ring.value (image x) ≡ f (F.Ring.value x)) };
+
+    ghost from_law: { (x : F) (y : Self) → ⟦<Self as From<F>>⟧.from_gives x y → Self.Ring.value y ≡ Self.Ring.value (image x) };
+
+    ghost can_add_base_law: { (x : Self) (y : F) → ⟦<Self as Add<F>>⟧.can_add x y };
+
+    ghost can_mul_base_law: { (x : Self) (y : F) → ⟦<Self as Mul<F>>⟧.can_mul x y };
+
+    ghost add_base_law: { (x : Self) (y : F) (r : Self) → ⟦<Self as Add<F>>⟧.add_gives x y r → Self.Ring.value r ≡ Self.Ring.ring.add (Self.Ring.value x) (Self.Ring.value (image y)) };
+
+    ghost mul_base_law: { (x : Self) (y : F) (r : Self) → ⟦<Self as Mul<F>>⟧.mul_gives x y r → Self.Ring.value r ≡ Self.Ring.ring.mul (Self.Ring.value x) (Self.Ring.value (image y)) };
+}
+
+// The field itself, as an algebra over itself.
+impl<F: Field> Algebra<F> for F {
+    ghost image = { λ x. x };
+
+    fn mixed_sum_more(sum: <F as Ring>::Sum, element: F, factor: F) -> <F as Ring>::Sum {
+        F::sum_more(sum, element, factor)
+    }
+
+    ghost base = { (λ v. v, record { at_nil = refl; at_one = refl; at_add = λ x y. refl; at_mul = λ x y. refl }, λ x. refl) };
+
+    ghost from_law = { λ x y e i. F.Ring.value (e i) };
+
+    ghost can_add_base_law = { F.Ring.can_add_law };
+
+    ghost can_mul_base_law = { F.Ring.can_mul_law };
+
+    ghost add_base_law = { F.Ring.add_law };
+
+    ghost mul_base_law = { F.Ring.mul_law };
 }

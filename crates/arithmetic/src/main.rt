@@ -7,8 +7,8 @@ use cubes::worked_cubes;
 use field::residue::KoalaBear;
 use field::{Field, InverseField};
 use lanes::Lanes;
-use monomial::fields::{RootedField, SBoxField};
 use monomial::{InjectiveMonomial, PermutationMonomial};
+use ring::Ring;
 use std::io;
 
 fn main(rt: HostRuntime) -> io::Result<()> {
@@ -21,22 +21,20 @@ fn main(rt: HostRuntime) -> io::Result<()> {
 
 // The element over itself: one, or nothing for zero.
 fn over_itself<F: InverseField>(x: F) -> Option<F>
-    ensures { MatchOption result (F.Field.value x ≡ F.Field.ring.nil) (λ y. F.Field.value y ≡ F.Field.ring.one) }
+    ensures { MatchOption result (F.Ring.value x ≡ F.Ring.ring.nil) (λ y. F.Ring.value y ≡ F.Ring.ring.one) }
 {
     let found = x.inverse()?;
-    Some(x.mul(found))
+    Some(x * found)
 }
 
 fn tell_inverse(rt: &HostRuntime) -> io::Result<()> {
     let three = KoalaBear::from_i64(3);
     rt.println("1. Preparation divides. In KoalaBear, modulo 2130706433:")?;
     if let Some(found) = three.inverse() {
-        let residue = found.as_canonical_u32();
-        println!(rt; "   the inverse of 3 is {residue};")?;
+        println!(rt; "   the inverse of 3 is {found};")?;
     }
     if let Some(one) = over_itself(three) {
-        let residue = one.as_canonical_u32();
-        println!(rt; "   3 times its inverse is {residue};")?;
+        println!(rt; "   3 times its inverse is {one};")?;
     }
     if over_itself(KoalaBear::zero()).is_none() {
         rt.println("   zero has no inverse, and the call says so.")?;
@@ -44,44 +42,40 @@ fn tell_inverse(rt: &HostRuntime) -> io::Result<()> {
     Ok(())
 }
 
-// The root of the power: the element again, in every field with a root.
-fn there_and_back<F: RootedField>(x: F) -> F
-    ensures { F.Field.value result ≡ F.Field.value x }
+// The root of the power: the element again, in every ring with a root.
+fn there_and_back<F: PermutationMonomial>(x: F) -> F
+    ensures { F.Ring.value result ≡ F.Ring.value x }
 {
     x.injective_exp_n().injective_exp_root_n()
 }
 
 fn tell_root(rt: &HostRuntime) -> io::Result<()> {
     let x = KoalaBear::from_i64(123456789);
-    let cube = x.injective_exp_n().as_canonical_u32();
-    let root = x.injective_exp_root_n().as_canonical_u32();
-    let again = there_and_back(x).as_canonical_u32();
+    let cube = x.injective_exp_n();
+    let root = x.injective_exp_root_n();
+    let again = there_and_back(x);
     rt.println("2. The S-box raises to the power 3, and its root undoes it:")?;
     println!(rt; "   the cube of 123456789 is {cube}, its cube root {root};")?;
     println!(rt; "   the cube root of the cube is {again}.")
 }
 
 // Four powers abreast: in each lane what the power makes of that lane alone.
-fn powers_abreast<F: SBoxField>(x: Lanes<F>) -> Lanes<F>
-    ensures a { F.Field.value result.a ≡ power F.Field.ring F.SBoxField.exponent (F.Field.value x.a) }
-    ensures b { F.Field.value result.b ≡ power F.Field.ring F.SBoxField.exponent (F.Field.value x.b) }
-    ensures c { F.Field.value result.c ≡ power F.Field.ring F.SBoxField.exponent (F.Field.value x.c) }
-    ensures d { F.Field.value result.d ≡ power F.Field.ring F.SBoxField.exponent (F.Field.value x.d) }
+fn powers_abreast<F: InjectiveMonomial>(x: Lanes<F>) -> Lanes<F>
+    ensures a { F.Ring.value result.a ≡ power F.Ring.ring F.InjectiveMonomial.D (F.Ring.value x.a) }
+    ensures b { F.Ring.value result.b ≡ power F.Ring.ring F.InjectiveMonomial.D (F.Ring.value x.b) }
+    ensures c { F.Ring.value result.c ≡ power F.Ring.ring F.InjectiveMonomial.D (F.Ring.value x.c) }
+    ensures d { F.Ring.value result.d ≡ power F.Ring.ring F.InjectiveMonomial.D (F.Ring.value x.d) }
 {
     x.injective_exp_n()
 }
 
 fn tell_lanes(rt: &HostRuntime) -> io::Result<()> {
-    let cubes = powers_abreast(Lanes {
+    let Lanes { a, b, c, d } = powers_abreast(Lanes {
         a: KoalaBear::from_i64(2),
         b: KoalaBear::from_i64(-2),
         c: KoalaBear::from_i64(1290),
         d: KoalaBear::from_i64(1291),
     });
-    let a = cubes.a.as_canonical_u32();
-    let b = cubes.b.as_canonical_u32();
-    let c = cubes.c.as_canonical_u32();
-    let d = cubes.d.as_canonical_u32();
     rt.println(
         "3. Cards run four states abreast. The cubes of 2, -2, 1290 and 1291 by four lanes:",
     )?;

@@ -1,13 +1,13 @@
 use Rattle.std.proofs.Common.{◌≡◌, ℕ, [], ◌∷◌, pos, refl, ◌∙◌, lit<}
 use native.Mathlib.Fin
 use Rattle.ring.specs.Rings.{integer, power, whole}
-use Rattle.ring.specs.Residues.{Z17}
+use Rattle.ring.specs.Residues.{Z17, at_17}
 use Rattle.ring.proofs.ResidueLaws.{whole_at}
 use Rattle.pairs.specs.Twos.{Two, twos}
-use Rattle.cubes.specs.Cubes.{at, pair, cube_of, WorkedCubes}
+use Rattle.cubes.specs.Cubes.{pair, cube_of, WorkedCubes}
 
-path : (x : Two Z17) (a b : ℕ) → x.0.0 ≡ (at a).0 → x.1.0 ≡ (at b).0 → x ≡ pair a b
-path x a b p q = λ i. (Fin.val_path {i = x.0} {j = at a} p i, Fin.val_path {i = x.1} {j = at b} q i)
+path : (x : Two Z17) (a b : ℕ) → x.0.0 ≡ (at_17 a).0 → x.1.0 ≡ (at_17 b).0 → x ≡ pair a b
+path x a b p q = λ i. (Fin.val_path {i = x.0} {j = at_17 a} p i, Fin.val_path {i = x.1} {j = at_17 b} q i)
 
 cube_one : power (twos Z17) 3 (pair 1 0) ≡ pair 1 0
 unfolding power whole

@@ -1,17 +1,12 @@
 -- Worked cubes on pairs over the field of 17, of the definitions alone.
 use Rattle.std.specs.Prelude.{◌≡◌, ℕ, List, [], ◌∷◌, ℤ}
-use Prim.Native.Nat.{Fin}
-use Rattle.std.proofs.Common.{lit<}
 use Rattle.ring.specs.Rings.{integer, power}
-use Rattle.ring.specs.Residues.{res, Z17}
+use Rattle.ring.specs.Residues.{Z17, at_17}
 use Rattle.pairs.specs.Twos.{Two, twos}
-
-abbrev pub at : ℕ → Fin 17
-at = res 17 (lit< tt)
 
 -- a + b·u
 abbrev pub pair : ℕ → ℕ → Two Z17
-pair a b = (at a, at b)
+pair a b = (at_17 a, at_17 b)
 
 -- the two residues of the cube of a + b·u
 abbrev pub cube_of : ℤ → ℤ → List ℕ

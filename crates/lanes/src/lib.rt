@@ -1,29 +1,32 @@
 #![tactic(auto)]
 
 ghost use Rattle.lanes.specs.Fours.{fours, each, each_hom};
-ghost use Rattle.std.specs.Prelude.{refl};
+ghost use Rattle.lanes.specs.Lanes.{lanes};
+ghost use Rattle.std.specs.Prelude.{◌≡◌, refl};
 
 use algebra::Algebra;
 use field::Field;
+use monomial::{InjectiveMonomial, PermutationMonomial};
+use ring::Ring;
+use std::ops::{Add, Mul, Neg, Sub};
 
-// Four elements of a field abreast.
+// Four elements abreast.
 #[derive(Clone, Copy)]
-pub struct Lanes<F> {
-    pub a: F,
-    pub b: F,
-    pub c: F,
-    pub d: F,
+pub struct Lanes<T> {
+    pub a: T,
+    pub b: T,
+    pub c: T,
+    pub d: T,
 }
 
-// Lanes, position by position.
-impl<F: Field> Algebra<F> for Lanes<F> {
-    ghost over = { fours F.Field.ring };
-
-    ghost means = { λ x. (F.Field.value x.a, F.Field.value x.b, F.Field.value x.c, F.Field.value x.d) };
-
-    ghost image = { λ x. each F.Field.ring (F.Field.value x) };
-
-    fn from_base(x: F) -> Lanes<F> {
+impl<T: Copy> Lanes<T> {
+    // One element in every lane.
+    fn splat(x: T) -> Lanes<T>
+        ensures a { result.a ≡ x }
+        ensures b { result.b ≡ x }
+        ensures c { result.c ≡ x }
+        ensures d { result.d ≡ x }
+    {
         Lanes {
             a: x,
             b: x,
@@ -32,112 +35,197 @@ impl<F: Field> Algebra<F> for Lanes<F> {
         }
     }
 
-    fn nil() -> Lanes<F> {
+    // What the step makes of each lane alone.
+    fn map<U, S: Fn(T) -> U>(self, step: S) -> Lanes<U>
+        requires { S.IsAlwaysCallable step }
+        ensures a { S.post step self.a result.a }
+        ensures b { S.post step self.b result.b }
+        ensures c { S.post step self.c result.c }
+        ensures d { S.post step self.d result.d }
+    {
         Lanes {
-            a: F::zero(),
-            b: F::zero(),
-            c: F::zero(),
-            d: F::zero(),
+            a: step(self.a),
+            b: step(self.b),
+            c: step(self.c),
+            d: step(self.d),
         }
     }
 
-    fn unit() -> Lanes<F> {
+    // What the step makes of each lane with that of the other.
+    fn zip<U: Copy, V, S: Fn(T, U) -> V>(self, other: Lanes<U>, step: S) -> Lanes<V>
+        requires { S.IsAlwaysCallable step }
+        ensures a { S.post step self.a other.a result.a }
+        ensures b { S.post step self.b other.b result.b }
+        ensures c { S.post step self.c other.c result.c }
+        ensures d { S.post step self.d other.d result.d }
+    {
         Lanes {
-            a: F::one(),
-            b: F::one(),
-            c: F::one(),
-            d: F::one(),
+            a: step(self.a, other.a),
+            b: step(self.b, other.b),
+            c: step(self.c, other.c),
+            d: step(self.d, other.d),
         }
     }
+}
 
-    fn plus(self, other: Lanes<F>) -> Lanes<F> {
-        Lanes {
-            a: self.a.add(other.a),
-            b: self.b.add(other.b),
-            c: self.c.add(other.c),
-            d: self.d.add(other.d),
-        }
+impl<F: Ring> Add for Lanes<F> {
+    type Output = Lanes<F>;
+
+    ghost add_gives = { λ x y r. lanes F.Ring.value r ≡ (fours F.Ring.ring).add (lanes F.Ring.value x) (lanes F.Ring.value y) };
+
+    fn add(self, other: Lanes<F>) -> Lanes<F> {
+        self.zip(other, |x, y| x + y)
+    }
+}
+
+impl<F: Ring> Sub for Lanes<F> {
+    type Output = Lanes<F>;
+
+    ghost sub_gives = { λ x y r. lanes F.Ring.value r ≡ (fours F.Ring.ring).add (lanes F.Ring.value x) ((fours F.Ring.ring).neg (lanes F.Ring.value y)) };
+
+    fn sub(self, other: Lanes<F>) -> Lanes<F> {
+        self.zip(other, |x, y| x - y)
+    }
+}
+
+impl<F: Ring> Neg for Lanes<F> {
+    type Output = Lanes<F>;
+
+    ghost neg_gives = { λ x r. lanes F.Ring.value r ≡ (fours F.Ring.ring).neg (lanes F.Ring.value x) };
+
+    fn neg(self) -> Lanes<F> {
+        self.map(|x| -x)
+    }
+}
+
+impl<F: Ring> Mul for Lanes<F> {
+    type Output = Lanes<F>;
+
+    ghost mul_gives = { λ x y r. lanes F.Ring.value r ≡ (fours F.Ring.ring).mul (lanes F.Ring.value x) (lanes F.Ring.value y) };
+
+    fn mul(self, other: Lanes<F>) -> Lanes<F> {
+        self.zip(other, |x, y| x * y)
+    }
+}
+
+impl<F: Ring> Ring for Lanes<F> {
+    ghost ring = { fours F.Ring.ring };
+
+    ghost value = { lanes F.Ring.value };
+
+    ghost zero = { record { a = F.Ring.zero; b = F.Ring.zero; c = F.Ring.zero; d = F.Ring.zero } };
+
+    fn zero() -> Lanes<F> {
+        Lanes::splat(F::zero())
     }
 
-    fn minus(self, other: Lanes<F>) -> Lanes<F> {
-        Lanes {
-            a: self.a.sub(other.a),
-            b: self.b.sub(other.b),
-            c: self.c.sub(other.c),
-            d: self.d.sub(other.d),
-        }
+    fn one() -> Lanes<F> {
+        Lanes::splat(F::one())
     }
 
-    fn negated(self) -> Lanes<F> {
-        Lanes {
-            a: self.a.neg(),
-            b: self.b.neg(),
-            c: self.c.neg(),
-            d: self.d.neg(),
-        }
+    type Sum = Lanes<<F as Ring>::Sum>;
+
+    ghost total = { lanes F.Ring.total };
+
+    fn sum_none() -> Lanes<<F as Ring>::Sum> {
+        Lanes::splat(F::sum_none())
     }
 
-    fn times(self, other: Lanes<F>) -> Lanes<F> {
-        Lanes {
-            a: self.a.mul(other.a),
-            b: self.b.mul(other.b),
-            c: self.c.mul(other.c),
-            d: self.d.mul(other.d),
-        }
+    fn sum_more(
+        sum: Lanes<<F as Ring>::Sum>,
+        left: Lanes<F>,
+        right: Lanes<F>,
+    ) -> Lanes<<F as Ring>::Sum> {
+        let factors = left.zip(right, |x, y| (x, y));
+        sum.zip(factors, |s, (x, y)| F::sum_more(s, x, y))
     }
 
-    fn plus_base(self, other: F) -> Lanes<F> {
-        Lanes {
-            a: self.a.add(other),
-            b: self.b.add(other),
-            c: self.c.add(other),
-            d: self.d.add(other),
-        }
+    fn sum_done(sum: Lanes<<F as Ring>::Sum>) -> Lanes<F> {
+        sum.map(|s| F::sum_done(s))
     }
 
-    fn times_base(self, other: F) -> Lanes<F> {
-        Lanes {
-            a: self.a.mul(other),
-            b: self.b.mul(other),
-            c: self.c.mul(other),
-            d: self.d.mul(other),
-        }
+    ghost zero_law = { λ i. each F.Ring.ring (F.Ring.zero_law i) };
+
+    ghost can_add_law = { λ x y. tt };
+
+    ghost can_sub_law = { λ x y. tt };
+
+    ghost can_mul_law = { λ x y. tt };
+
+    ghost can_neg_law = { λ x. tt };
+
+    ghost add_law = { λ x y r h. h };
+
+    ghost sub_law = { λ x y r h. h };
+
+    ghost mul_law = { λ x y r h. h };
+
+    ghost neg_law = { λ x r h. h };
+}
+
+// A field element enters in every lane.
+impl<F: Field> From<F> for Lanes<F> {
+    ghost from_gives = { λ x r. lanes F.Ring.value r ≡ each F.Ring.ring (F.Ring.value x) };
+
+    fn from(x: F) -> Lanes<F> {
+        Lanes::splat(x)
     }
+}
 
-    type Sum = Lanes<<F as Field>::Sum>;
+impl<F: Field> Add<F> for Lanes<F> {
+    type Output = Lanes<F>;
 
-    ghost total = { λ s. (F.Field.total s.a, F.Field.total s.b, F.Field.total s.c, F.Field.total s.d) };
+    ghost add_gives = { λ x y r. lanes F.Ring.value r ≡ (fours F.Ring.ring).add (lanes F.Ring.value x) (each F.Ring.ring (F.Ring.value y)) };
 
-    ghost base = { (each F.Field.ring, each_hom F.Field.ring, λ x. refl) };
-
-    fn mixed_sum_none() -> Lanes<<F as Field>::Sum> {
-        Lanes {
-            a: F::sum_none(),
-            b: F::sum_none(),
-            c: F::sum_none(),
-            d: F::sum_none(),
-        }
+    fn add(self, other: F) -> Lanes<F> {
+        self.map(|x| x + other)
     }
+}
+
+impl<F: Field> Mul<F> for Lanes<F> {
+    type Output = Lanes<F>;
+
+    ghost mul_gives = { λ x y r. lanes F.Ring.value r ≡ (fours F.Ring.ring).mul (lanes F.Ring.value x) (each F.Ring.ring (F.Ring.value y)) };
+
+    fn mul(self, other: F) -> Lanes<F> {
+        self.map(|x| x * other)
+    }
+}
+
+impl<F: Field> Algebra<F> for Lanes<F> {
+    ghost image = { λ x. record { a = x; b = x; c = x; d = x } };
 
     fn mixed_sum_more(
-        sum: Lanes<<F as Field>::Sum>,
+        sum: Lanes<<F as Ring>::Sum>,
         element: Lanes<F>,
         factor: F,
-    ) -> Lanes<<F as Field>::Sum> {
-        Lanes {
-            a: F::sum_more(sum.a, element.a, factor),
-            b: F::sum_more(sum.b, element.b, factor),
-            c: F::sum_more(sum.c, element.c, factor),
-            d: F::sum_more(sum.d, element.d, factor),
-        }
+    ) -> Lanes<<F as Ring>::Sum> {
+        sum.zip(element, |s, x| F::sum_more(s, x, factor))
     }
 
-    fn mixed_sum_done(sum: Lanes<<F as Field>::Sum>) -> Lanes<F> {
-        Lanes {
-            a: F::sum_done(sum.a),
-            b: F::sum_done(sum.b),
-            c: F::sum_done(sum.c),
-            d: F::sum_done(sum.d),
-        }
+    ghost base = { (each F.Ring.ring, each_hom F.Ring.ring, λ x. refl) };
+
+    ghost from_law = { λ x y h. h };
+
+    ghost can_add_base_law = { λ x y. tt };
+
+    ghost can_mul_base_law = { λ x y. tt };
+
+    ghost add_base_law = { λ x y r h. h };
+
+    ghost mul_base_law = { λ x y r h. h };
+}
+
+impl<F: InjectiveMonomial> InjectiveMonomial for Lanes<F> {
+    const D: u8 = F::D;
+
+    ghost D = { F.InjectiveMonomial.D };
+
+    ghost least = { F.InjectiveMonomial.least };
+}
+
+impl<F: PermutationMonomial> PermutationMonomial for Lanes<F> {
+    fn injective_exp_root_n(self) -> Lanes<F> {
+        self.map(|x| x.injective_exp_root_n())
     }
 }

@@ -5,33 +5,29 @@ ghost use Rattle.ring.specs.Rings.{power};
 ghost use Rattle.ring.specs.Roots.{RootOf};
 
 use crate::exponentiation::exp_small;
-use algebra::Algebra;
-use field::Field;
+use ring::Ring;
 
-pub mod algebras;
 pub mod exponentiation;
-pub mod fields;
+pub mod residues;
 
-// The S-box: an algebra with an exponent from 3 to 255, and the power with this exponent.
-pub trait InjectiveMonomial<F: Field>: Algebra<F> {
-    ghost exponent: { ℕ };
+// The S-box: a ring with an exponent D from 3 to 255, and the power with this exponent.
+pub trait InjectiveMonomial: Ring {
+    const D: u8;
 
-    ghost least: { 3 ≤ exponent };
+    ghost D: { ℕ };
 
-    // The exponent.
-    fn degree() -> u8
-        ensures { result ≡ exponent };
+    ghost least: { 3 ≤ D };
 
-    // The product of as many factors as the exponent says.
+    // The D-fold product.
     fn injective_exp_n(self) -> Self
-        ensures { Self.Algebra.means result ≡ power Self.Algebra.over exponent (Self.Algebra.means self) }
+        ensures { Self.Ring.value result ≡ power Self.Ring.ring D (Self.Ring.value self) }
     {
-        exp_small::<F, Self>(self, Self::degree())
+        exp_small(self, Self::D)
     }
 }
 
 // A rooted S-box: the root undoes the power and the power undoes the root, at every value.
-pub trait PermutationMonomial<F: Field>: InjectiveMonomial<F> {
+pub trait PermutationMonomial: InjectiveMonomial {
     fn injective_exp_root_n(self) -> Self
-        ensures { RootOf Self.Algebra.over Self.InjectiveMonomial.exponent (Self.Algebra.means self) (Self.Algebra.means result) };
+        ensures { RootOf Self.Ring.ring Self.InjectiveMonomial.D (Self.Ring.value self) (Self.Ring.value result) };
 }

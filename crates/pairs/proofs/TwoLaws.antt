@@ -1,5 +1,5 @@
 -- A pair times a value without u: each part times the value.
-use mathlib.Core.Path.{◌≡◌}
+use Rattle.std.proofs.Common.{◌≡◌}
 use Rattle.ring.specs.Rings.{RingOn}
 use Rattle.ring.proofs.RingLaws.{ring}
 use Rattle.pairs.specs.Twos.{Two, three, two_mul, plain}

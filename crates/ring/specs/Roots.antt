@@ -8,5 +8,7 @@ pub record Root (R : RingOn) (d : ℕ) (root : R.V → R.V) : Type 0 where
   pub root_after : (v : R.V) → root (power R d v) ≡ v
 
 -- r is what a root of the power d gives at v; there is one such root at most
-abbrev pub RootOf : (R : RingOn) → ℕ → R.V → R.V → Type 0
-RootOf R d v r = (root : R.V → R.V) × Root R d root × (r ≡ root v)
+pub record RootOf (R : RingOn) (d : ℕ) (v r : R.V) : Type 0 where
+  pub root : R.V → R.V
+  pub undoes : Root R d root
+  pub gives : r ≡ root v

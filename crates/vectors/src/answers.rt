@@ -1,106 +1,55 @@
 use crate::cases::Kind;
-use algebra::Algebra;
-use field::residue::{PrimeModulus, Residue};
 use field::{Field, InverseField};
 use lanes::Lanes;
-use monomial::fields::RootedField;
 use monomial::{InjectiveMonomial, PermutationMonomial};
 use pairs::Pair;
 use std::alloc::{AllocError, Global};
 
-// A field whose elements are written as numbers.
-pub trait Canonical: RootedField + InverseField {
-    fn canonical(self) -> i64;
-}
-
-impl<const P: u32> Canonical for Residue<P>
-where
-    Residue<P>: PrimeModulus<P>,
-{
-    fn canonical(self) -> i64 {
-        self.as_canonical_u32() as i64
-    }
-}
-
-// What the library answers; nothing where the numbers given do not fit the kind.
-pub fn answer<F: Canonical>(
+// What the library answers, residue by residue; nothing where the numbers given do not fit the kind.
+pub fn answer<F: InverseField + PermutationMonomial + Into<u32>>(
     heap: Global,
     kind: Kind,
     given: &[i64],
-) -> Result<Vec<i64>, AllocError> {
-    let mut out = Vec::new(heap);
-    match kind {
-        Kind::Dot => out.push(dot::<F>(heap, given)?.canonical())?,
-        Kind::PowerLanes | Kind::RootLanes => {
-            if let [a, b, c, d] = given {
-                let found = of_lanes(kind, lanes::<F>(*a, *b, *c, *d));
-                out.push(found.a.canonical())?;
-                out.push(found.b.canonical())?;
-                out.push(found.c.canonical())?;
-                out.push(found.d.canonical())?;
-            }
+) -> Result<Option<Vec<u32>>, AllocError> {
+    let given = elements::<F>(heap, given)?;
+    let found = match (kind, given.as_slice()) {
+        (Kind::From, [x]) => single(heap, *x),
+        (Kind::Product, [x, y]) => single(heap, *x * *y),
+        (Kind::Inverse, [x]) => x.inverse().into_iter().map(F::into).collect(heap),
+        (Kind::Power, [x]) => single(heap, x.injective_exp_n()),
+        (Kind::Root, [x]) => single(heap, x.injective_exp_root_n()),
+        (Kind::PowerLanes, [a, b, c, d]) => four(heap, lanes(*a, *b, *c, *d).injective_exp_n()),
+        (Kind::RootLanes, [a, b, c, d]) => {
+            four(heap, lanes(*a, *b, *c, *d).injective_exp_root_n())
         }
-        Kind::PowerPair => {
-            if let [a, b] = given {
-                let found = Pair {
-                    a: F::from_i64(*a),
-                    b: F::from_i64(*b),
-                }
-                .injective_exp_n();
-                out.push(found.a.canonical())?;
-                out.push(found.b.canonical())?;
-            }
+        (Kind::PowerPair, [a, b]) => two(heap, Pair { a: *a, b: *b }.injective_exp_n()),
+        (Kind::Dot, all) => {
+            let (left, right) = all.split_at(all.len() / 2);
+            single(heap, F::dot_product(left, right))
         }
-        _ => {
-            if let Some(found) = of_field::<F>(kind, given) {
-                out.push(found.canonical())?;
-            }
-        }
-    }
-    Ok(out)
+        _ => return Ok(None),
+    };
+    Ok(Some(found?))
 }
 
-fn of_field<F: Canonical>(kind: Kind, given: &[i64]) -> Option<F> {
-    match given {
-        [x, y] => Some(F::from_i64(*x).mul(F::from_i64(*y))),
-        [x] => match kind {
-            Kind::Inverse => F::from_i64(*x).inverse(),
-            Kind::Power => Some(F::from_i64(*x).injective_exp_n()),
-            Kind::Root => Some(F::from_i64(*x).injective_exp_root_n()),
-            _ => Some(F::from_i64(*x)),
-        },
-        _ => None,
-    }
+fn single<F: Into<u32>>(heap: Global, x: F) -> Result<Vec<u32>, AllocError> {
+    Ok(vec![in heap; x.into()]?)
 }
 
-fn lanes<F: Field>(a: i64, b: i64, c: i64, d: i64) -> Lanes<F> {
-    Lanes {
-        a: F::from_i64(a),
-        b: F::from_i64(b),
-        c: F::from_i64(c),
-        d: F::from_i64(d),
-    }
+fn two<F: Into<u32>>(heap: Global, x: Pair<F>) -> Result<Vec<u32>, AllocError> {
+    let Pair { a, b } = x;
+    Ok(vec![in heap; a.into(), b.into()]?)
 }
 
-fn of_lanes<F: RootedField>(kind: Kind, x: Lanes<F>) -> Lanes<F> {
-    match kind {
-        Kind::RootLanes => x.injective_exp_root_n(),
-        _ => x.injective_exp_n(),
-    }
+fn four<F: Into<u32>>(heap: Global, x: Lanes<F>) -> Result<Vec<u32>, AllocError> {
+    let Lanes { a, b, c, d } = x;
+    Ok(vec![in heap; a.into(), b.into(), c.into(), d.into()]?)
 }
 
-// The first half of the numbers with the second.
-fn dot<F: Field>(heap: Global, given: &[i64]) -> Result<F, AllocError> {
-    let (first, second) = given.split_at(given.len() / 2);
-    let left = elements::<F>(heap, first)?;
-    let right = elements::<F>(heap, second)?;
-    Ok(<F as Field>::dot_product(left.as_slice(), right.as_slice()))
+fn lanes<F>(a: F, b: F, c: F, d: F) -> Lanes<F> {
+    Lanes { a, b, c, d }
 }
 
 fn elements<F: Field>(heap: Global, numbers: &[i64]) -> Result<Vec<F>, AllocError> {
-    let mut out = Vec::new(heap);
-    for n in numbers {
-        out.push(F::from_i64(*n))?;
-    }
-    Ok(out)
+    numbers.iter().map(|n| F::from_i64(*n)).collect(heap)
 }

@@ -1,7 +1,9 @@
-use std::alloc::{AllocError, Global};
+use std::alloc::{AllocError, AllocFailed, Global};
+use std::fmt;
+use std::str::{FromStr, SplitWhitespace};
 
 // What is asked of a field.
-#[derive(Clone, Copy)]
+#[derive(Clone, Copy, PartialEq, Eq, PartialOrd, Ord)]
 pub enum Kind {
     From,
     Product,
@@ -14,72 +16,121 @@ pub enum Kind {
     Dot,
 }
 
-// The kinds as the cases name them, in the same order.
-pub const KINDS: [&str; 9] = [
-    "from",
-    "product",
-    "inverse",
-    "power",
-    "power_lanes",
-    "power_pair",
-    "root",
-    "root_lanes",
-    "dot",
+// All of them, in the order in which they are told.
+pub const KINDS: [Kind; 9] = [
+    Kind::From,
+    Kind::Product,
+    Kind::Inverse,
+    Kind::Power,
+    Kind::PowerLanes,
+    Kind::PowerPair,
+    Kind::Root,
+    Kind::RootLanes,
+    Kind::Dot,
 ];
+
+impl Kind {
+    // As the cases name it.
+    fn name(self) -> &'static str {
+        match self {
+            Kind::From => "from",
+            Kind::Product => "product",
+            Kind::Inverse => "inverse",
+            Kind::Power => "power",
+            Kind::PowerLanes => "power_lanes",
+            Kind::PowerPair => "power_pair",
+            Kind::Root => "root",
+            Kind::RootLanes => "root_lanes",
+            Kind::Dot => "dot",
+        }
+    }
+}
+
+impl fmt::Display for Kind {
+    fn fmt<W: fmt::Write>(&self, f: &mut fmt::Formatter<W>) -> fmt::Result {
+        f.write_str(self.name())
+    }
+}
+
+impl FromStr for Kind {
+    type Err = CaseError;
+
+    fn from_str(word: &str) -> Result<Kind, CaseError> {
+        KINDS
+            .iter()
+            .copied()
+            .find(|kind| kind.name() == word)
+            .ok_or(CaseError::Form)
+    }
+}
+
+// The fields that are asked.
+#[derive(Clone, Copy)]
+pub enum Over {
+    F17,
+    KoalaBear,
+    BabyBear,
+}
+
+impl FromStr for Over {
+    type Err = CaseError;
+
+    // By the modulus.
+    fn from_str(word: &str) -> Result<Over, CaseError> {
+        match word {
+            "17" => Ok(Over::F17),
+            "2130706433" => Ok(Over::KoalaBear),
+            "2013265921" => Ok(Over::BabyBear),
+            _ => Err(CaseError::Form),
+        }
+    }
+}
+
+// Why a line is no case.
+#[derive(Clone, Copy, Debug)]
+pub enum CaseError {
+    Form,
+    Memory(AllocError),
+}
+
+impl<T: Drop> From<AllocFailed<T>> for CaseError {
+    fn from(error: AllocFailed<T>) -> CaseError {
+        CaseError::Memory(AllocError::from(error))
+    }
+}
 
 // A line such as `product 17 3 7 = 4`; an inverse that is absent has nothing behind the sign.
 #[derive(Drop)]
 pub struct Case {
     pub kind: Kind,
-    pub modulus: i64,
+    pub over: Over,
     pub given: Vec<i64>,
-    pub answer: Vec<i64>,
+    pub answer: Vec<u32>,
 }
 
-fn kind_of(word: &str) -> Option<Kind> {
-    match word {
-        "from" => Some(Kind::From),
-        "product" => Some(Kind::Product),
-        "inverse" => Some(Kind::Inverse),
-        "power" => Some(Kind::Power),
-        "power_lanes" => Some(Kind::PowerLanes),
-        "power_pair" => Some(Kind::PowerPair),
-        "root" => Some(Kind::Root),
-        "root_lanes" => Some(Kind::RootLanes),
-        "dot" => Some(Kind::Dot),
-        _ => None,
+impl Case {
+    pub fn read(heap: Global, line: &str) -> Result<Case, CaseError> {
+        let (asked, answered) = line.split_once('=').ok_or(CaseError::Form)?;
+        let mut words = asked.split_whitespace();
+        let kind = words.next().ok_or(CaseError::Form)?.parse::<Kind>()?;
+        let over = words.next().ok_or(CaseError::Form)?.parse::<Over>()?;
+        Ok(Case {
+            kind,
+            over,
+            given: numbers(heap, words)?,
+            answer: numbers(heap, answered.split_whitespace())?,
+        })
     }
 }
 
-// A line in another form is read as a case of modulus 0, with which nothing agrees.
-pub fn read_case(heap: Global, line: &str) -> Result<Case, AllocError> {
-    let mut case = Case {
-        kind: Kind::From,
-        modulus: 0,
-        given: Vec::new(heap),
-        answer: Vec::new(heap),
-    };
-    let mut answering = false;
-    for word in line.split_whitespace() {
-        if let Some(kind) = kind_of(word) {
-            case.kind = kind;
-        } else if word == "=" {
-            answering = true;
-        } else if let Ok(number) = word.parse::<i64>() {
-            take(&mut case, answering, number)?;
-        }
+// The numbers that the words are, to the last of them.
+fn numbers<T: FromStr + Drop>(heap: Global, words: SplitWhitespace<'_>) -> Result<Vec<T>, CaseError>
+where
+    T::Err: Drop,
+{
+    let mut out = Vec::new(heap);
+    for word in words {
+        out.push(word.parse::<T>().map_err(|_| CaseError::Form)?)?;
     }
-    Ok(case)
-}
-
-// The first number is the modulus.
-fn take(case: &mut Case, answering: bool, number: i64) -> Result<(), AllocError> {
-    if answering {
-        case.answer.push(number)?;
-    } else if case.modulus == 0 {
-        case.modulus = number;
-    } else {
-        case.given.push(number)?;
-    }
-    Ok(())
+    Ok(out)
 }

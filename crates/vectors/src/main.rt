@@ -1,9 +1,10 @@
 #![tactic(auto)]
 
 use crate::answers::answer;
-use crate::cases::{Case, KINDS, read_case};
+use crate::cases::{Case, CaseError, KINDS, Kind, Over};
 use field::residue::{BabyBear, F17, KoalaBear};
 use std::alloc::{AllocError, Global};
+use std::collections::BTreeMap;
 use std::io;
 
 mod answers;
@@ -12,33 +13,41 @@ mod cases;
 // Replays the stored cases on standard input, and says how many agree.
 fn main(rt: HostRuntime) -> io::Result<()> {
     let text = io::read_to_string(rt.alloc(), rt.stdin())?;
-    let mut agree = [0u32; 9];
+    let mut agree: BTreeMap<Kind, u32> = BTreeMap::new(rt.alloc());
     let mut differ = 0u32;
     for line in text.as_str().lines() {
-        let case = read_case(rt.alloc(), line)?;
-        let kind = case.kind as usize;
-        if replay(rt.alloc(), &case)? {
-            agree[kind] = agree[kind].saturating_add(1);
+        if let Some(kind) = replay(rt.alloc(), line)? {
+            let count = agree.entry(kind)?.or_insert(0);
+            *count = count.saturating_add(1);
         } else {
             differ = differ.saturating_add(1);
             println!(rt; "DIFFERS: {line}")?;
         }
     }
-    for (kind, name) in KINDS.iter().enumerate() {
-        let count = agree[kind];
-        println!(rt; "{name}: {count} agree")?;
+    for kind in KINDS {
+        let count = agree.get(&kind).copied().unwrap_or(0);
+        println!(rt; "{kind}: {count} agree")?;
     }
     println!(rt; "{differ} differ")
 }
 
-// Whether the library answers what is stored; a case of another field or form does not agree.
-fn replay(heap: Global, case: &Case) -> Result<bool, AllocError> {
-    let given = case.given.as_slice();
-    let found = match case.modulus {
-        17 => answer::<F17>(heap, case.kind, given)?,
-        2130706433 => answer::<KoalaBear>(heap, case.kind, given)?,
-        2013265921 => answer::<BabyBear>(heap, case.kind, given)?,
-        _ => return Ok(false),
+// The kind of the case where the library answers what is stored; nothing for another answer or no case.
+fn replay(heap: Global, line: &str) -> Result<Option<Kind>, AllocError> {
+    let Case {
+        kind,
+        over,
+        given,
+        answer: stored,
+    } = match Case::read(heap, line) {
+        Ok(case) => case,
+        Err(CaseError::Form) => return Ok(None),
+        Err(CaseError::Memory(error)) => return Err(error),
     };
-    Ok(found == case.answer)
+    let given = given.as_slice();
+    let found = match over {
+        Over::F17 => answer::<F17>(heap, kind, given)?,
+        Over::KoalaBear => answer::<KoalaBear>(heap, kind, given)?,
+        Over::BabyBear => answer::<BabyBear>(heap, kind, given)?,
+    };
+    Ok((found == Some(stored)).then_some(kind))
 }

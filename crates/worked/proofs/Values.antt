@@ -2,12 +2,12 @@ use Rattle.std.proofs.Common.{◌≡◌, ℕ, ◌^◌, ℤ, pos, neg_ℤ, nat_ab
 use native.Mathlib.Fin
 use Rattle.std.specs.Int.{int_rem_euclid}
 use Rattle.ring.specs.Rings.{integer}
-use Rattle.ring.specs.Residues.{Z17}
+use Rattle.ring.specs.Residues.{Z17, at_17}
 use Rattle.ring.proofs.ResidueLaws.{integer_at}
-use Rattle.worked.specs.Worked.{at, WorkedValues}
+use Rattle.worked.specs.Worked.{WorkedValues}
 
 -- a remainder is computed, a sum of so many ones is not
-from : (z : ℤ) (n : ℕ) → nat_abs (int_rem_euclid z (pos 17)) ≡ (at n).0 → integer Z17 z ≡ at n
+from : (z : ℤ) (n : ℕ) → nat_abs (int_rem_euclid z (pos 17)) ≡ (at_17 n).0 → integer Z17 z ≡ at_17 n
 from z n e = Fin.val_path (sym (integer_at 17 (lit< tt) z) ∙ e)
 
 pub worked_values_lem : WorkedValues
