@@ -5,7 +5,6 @@ use Rattle.walkthrough.proofs.product.Goals as goal
 
 pub returns : goal.returns
 returns g c =
-    let R = g.F.Field.ring in
     let a : to_z w64 (of_z w64 c.from.result) ≡ c.args.a = omega (arith, ints) in
     let b : to_z w64 (of_z w64 c.from-2.result) ≡ c.args.b = omega (arith, ints) in
     rw (integer-mul, ← a, ← b) cc
