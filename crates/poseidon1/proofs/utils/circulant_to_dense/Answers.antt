@@ -1,5 +1,5 @@
-use Rattle.std.proofs.Common.{◌<◌, length, ◌∙◌, refl, ap, arith, w64, rules}
-use Rattle.std.proofs.lemmas.Int.{to_z-of_z}
+use Rattle.std.proofs.Common.{◌∙◌, refl, ap, arith}
+use Rattle.std.proofs.lemmas.Int.{ints}
 use Rattle.ring.specs.Rings.{integer}
 use Rattle.linear.specs.Linear.{tab}
 use Rattle.linear.proofs.Tabs.{written_more}
@@ -11,6 +11,5 @@ loop-k-init g c = refl
 
 pub loop-k-preserved : goal.loop-k-preserved
 loop-k-preserved g c =
-    let inside : c.loop-k.k < length c.loop-k.dense = omega arith in
-    let wrote = c.from_i64.ensures ∙ ap (integer g.F.Field.ring) (to_z-of_z w64 _ (search rules)) in
-    written_more g.F.Field.value _ c.loop-k.dense c.loop-k.k c.from_i64.result inside c.loop-k.invariant wrote
+    written_more g.F.Field.value _ c.loop-k.dense c.loop-k.k c.from_i64.result (omega arith) c.loop-k.invariant
+    (c.from_i64.ensures ∙ ap (integer g.F.Field.ring) (omega (arith, ints)))
