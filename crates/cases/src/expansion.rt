@@ -20,10 +20,10 @@ fn answer(rt: &impl Abort, column: &[i64], length: usize) -> (Option<Refusal>, u
     let mut dense = [F17::one(); 4];
     assert!(rt; length <= 4);
     let refusal = circulant_to_dense(column, &mut dense[..length]).err();
-    let sum = dense.iter().fold(
-        0u32,
-        |sum, element| sum.saturating_add(element.as_canonical_u32()),
-    );
+    let sum = dense
+        .map(F17::as_canonical_u32)
+        .into_iter()
+        .fold(0, u32::saturating_add);
     (refusal, sum)
 }
 
