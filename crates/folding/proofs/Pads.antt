@@ -5,16 +5,16 @@ use Rattle.std.specs.Int.Digits.{number_from_digits, number_from_digits_after}
 use Rattle.std.proofs.lemmas.Simd.{length-replicate}
 use Rattle.std.proofs.lemmas.Str.Parse.{IsNumeralModel, numerals_by_fold}
 use Rattle.std.proofs.lemmas.Fmt.{digits_decimal, digits_value-decimal, length-decimal-le, decimal_nonempty}
-use Rattle.sheet.specs.Lines.{all_digits, digit_value}
 use Rattle.std.specs.Char.{encode_utf8}
 use Rattle.std.specs.Fmt.{char_count, format_spec, padded_integral}
 use Rattle.std.specs.List.{repeat}
+use Rattle.sheet.specs.Lines.{all_digits, digit_value}
 use Rattle.folding.specs.Columns.{padded, entry_of, rows_of, ColumnsRead}
 
-blanks : (k : ℕ) → repeat k (encode_utf8 32) ≡ replicate k 32
+repeat-blank : (k : ℕ) → repeat k (encode_utf8 32) ≡ replicate k 32
 unfolding encode_utf8
-blanks zero = refl
-blanks (suc k) = ap (λ l. 32 ∷ l) (blanks k)
+repeat-blank zero = refl
+repeat-blank (suc k) = ap (λ l. 32 ∷ l) (repeat-blank k)
 
 -- what `{:>11}` writes
 pub written : (n : ℕ) → padded_integral (format_spec 32 3 0 11 (2 ^ 64 - 1)) false [] (decimal n) ≡ padded n
@@ -22,7 +22,7 @@ unfolding padded_integral char_count
 written n =
     let wide : 11 - length (decimal n) - 0 - 0 ≡ 11 - length (decimal n) = omega arith in
     let none : 11 - length (decimal n) - (11 - length (decimal n)) ≡ 0 = omega arith in
-    rw (wide, none, blanks (11 - length (decimal n))) (simp append-nil)
+    rw (wide, none, repeat-blank (11 - length (decimal n))) (simp append-nil)
 
 pub rows_push : (w k : ℕ) (ns : List ℕ) (n : ℕ) → rows_of w k (ns ++ (n ∷ [])) ≡ rows_of w k ns ++ entry_of w (k + length ns) n
 rows_push w k [] n = append-nil (entry_of w k n) ∙ ap (λ i. entry_of w i n) (sym (add-zero k))
