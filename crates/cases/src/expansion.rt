@@ -8,28 +8,29 @@ use std::process::Abort;
 #[test]
 fn columns_move_down(rt: HostRuntime) {
     let mut dense = [F17::zero(); 9];
-    assert!(rt; circulant_to_dense(&[0, 1, -15], &mut dense).is_ok());
-    for (element, residue) in dense.iter().zip([0, 2, 1, 1, 0, 2, 2, 1, 0]) {
-        assert_eq!(rt; element.as_canonical_u32(), residue);
-    }
+    assert_eq!(rt; circulant_to_dense(&[0, 1, -15], &mut dense), Ok(()));
+    assert_eq!(rt;
+        dense.map(F17::as_canonical_u32),
+        [0, 2, 1, 1, 0, 2, 2, 1, 0]
+    );
 }
 
 // The refusal, if any, and the sum of a buffer that held four ones before.
 fn answer(rt: &impl Abort, column: &[i64], length: usize) -> (Option<Refusal>, u32) {
     let mut dense = [F17::one(); 4];
     assert!(rt; length <= 4);
-    let refusal = circulant_to_dense(column, &mut dense[0..length]).err();
-    let mut sum = 0u32;
-    for element in dense.iter() {
-        sum = sum.saturating_add(element.as_canonical_u32());
-    }
+    let refusal = circulant_to_dense(column, &mut dense[..length]).err();
+    let sum = dense
+        .map(F17::as_canonical_u32)
+        .into_iter()
+        .fold(0, u32::saturating_add);
     (refusal, sum)
 }
 
 #[test]
 fn refused_expansions_leave_the_buffer(rt: HostRuntime) {
-    assert!(rt; answer(&rt, &[2, 3], 4) == (None, 10));
-    assert!(rt; answer(&rt, &[2], 1) == (Some(Refusal::Width), 4));
-    assert!(rt; answer(&rt, &[0; 25], 4) == (Some(Refusal::Width), 4));
-    assert!(rt; answer(&rt, &[2, 3], 3) == (Some(Refusal::TablesLength), 4));
+    assert_eq!(rt; answer(&rt, &[2, 3], 4), (None, 10));
+    assert_eq!(rt; answer(&rt, &[2], 1), (Some(Refusal::Width), 4));
+    assert_eq!(rt; answer(&rt, &[0; 25], 4), (Some(Refusal::Width), 4));
+    assert_eq!(rt; answer(&rt, &[2, 3], 3), (Some(Refusal::TablesLength), 4));
 }

@@ -7,8 +7,8 @@ fn enters<const P: u32>(rt: &impl Abort, cases: &[(i64, u32)])
 where
     Residue<P>: Modulus<P>,
 {
-    for (n, residue) in cases {
-        assert_eq!(rt; Residue::<P>::from_i64(*n).as_canonical_u32(), *residue);
+    for &(n, residue) in cases {
+        assert_eq!(rt; Residue::<P>::from_i64(n).as_canonical_u32(), residue);
     }
 }
 

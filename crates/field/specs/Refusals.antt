@@ -1,5 +1,6 @@
--- The number and the place of each refusal.
-use Rattle.std.specs.Prelude.{ℕ}
+-- The number and the place of each refusal, and how it is printed.
+use Rattle.std.specs.Prelude.{ℕ, List, ◌++◌, decimal}
+use lib.Chars.{codes}
 use Rattle.field.specs.declared.refusal.Refusal.{Refusal}
 use Rattle.field.specs.declared.refusal.Refusal.TheVariants.{Width, FullRounds, PartialRounds, MatrixLength, ConstantsLength, TablesLength, WorkLength, SpareLength, SingularMatrix, SingularBlock, StateLength, EngineWidth, Line}
 
@@ -32,3 +33,7 @@ place_of (SingularBlock row) = row
 place_of StateLength = 0
 place_of EngineWidth = 0
 place_of (Line line) = line
+
+-- what is printed of a refusal, as `refusal 10 at 3`
+abbrev pub message_of : Refusal → List ℕ
+message_of q = codes "refusal " ++ (decimal (number_of q) ++ (codes " at " ++ decimal (place_of q)))

@@ -1,5 +1,8 @@
-ghost use Rattle.std.specs.Prelude.{◌≡◌};
-ghost use Rattle.field.specs.Refusals.{number_of, place_of};
+ghost use Rattle.std.specs.Prelude.{◌≡◌, Some};
+ghost use Rattle.field.specs.Refusals.{number_of, place_of, message_of};
+
+use std::error::Error;
+use std::fmt;
 
 // Why a call is refused, for every call of the library.
 #[derive(Clone, Copy, PartialEq, Eq, Debug)]
@@ -69,3 +72,13 @@ impl Refusal {
         }
     }
 }
+
+impl fmt::Display for Refusal {
+    ghost output = { λ refusal. Some (message_of refusal) };
+
+    fn fmt<W: fmt::Write>(&self, f: &mut fmt::Formatter<W>) -> fmt::Result {
+        write!(f, "refusal {} at {}", self.number(), self.place())
+    }
+}
+
+impl Error for Refusal {}

@@ -19,7 +19,7 @@ pub const MAX_ROUNDS_P: usize = 128;
 pub fn check_width(width: usize) -> Result<(), Refusal>
     ensures { MatchResult result (λ _. width_refused width ≡ None) (λ q. width_refused width ≡ Some q) }
 {
-    if width < MIN_WIDTH || width > MAX_WIDTH {
+    if !(MIN_WIDTH..=MAX_WIDTH).contains(&width) {
         return Err(Refusal::Width);
     }
     Ok(())
@@ -30,10 +30,10 @@ pub fn check_sizes(width: usize, rounds_f: usize, rounds_p: usize) -> Result<(),
     ensures { MatchResult result (λ _. sizes_refused width rounds_f rounds_p ≡ None) (λ q. sizes_refused width rounds_f rounds_p ≡ Some q) }
 {
     check_width(width)?;
-    if rounds_f < MIN_ROUNDS_F || rounds_f > MAX_ROUNDS_F {
+    if !(MIN_ROUNDS_F..=MAX_ROUNDS_F).contains(&rounds_f) {
         return Err(Refusal::FullRounds);
     }
-    if rounds_p < MIN_ROUNDS_P || rounds_p > MAX_ROUNDS_P {
+    if !(MIN_ROUNDS_P..=MAX_ROUNDS_P).contains(&rounds_p) {
         return Err(Refusal::PartialRounds);
     }
     Ok(())

@@ -8,6 +8,6 @@ use std::io::Read;
 fn main(rt: HostRuntime) -> io::Result<()> {
     let mut bytes = Vec::new(rt.alloc());
     rt.stdin().read_to_end(&mut bytes)?;
-    let text = fold_text(rt.alloc(), bytes.as_slice())?;
-    rt.print(text.as_str())
+    let text = fold_text(rt.alloc(), &bytes)?;
+    rt.print(text)
 }

@@ -1,19 +1,28 @@
--- Numbers in columns: one blank more, one number more, and what a padded says.
-use Rattle.std.proofs.Common.{◌≡◌, ℕ, zero, suc, ◌+◌, ◌-◌, ◌^◌, ◌<◌, ◌≤◌, true, false, List, [], ◌∷◌, ◌++◌, map, length, get_or, take, replicate, pos, decimal, sym, refl, ap, ◌∙◌, append_assoc, append-nil, add-zero, add-one, arith, length-append, rules}
+-- Numbers in columns: what is written of one, one number more, and what a padded number says.
+use Rattle.std.proofs.Common.{◌≡◌, ℕ, zero, suc, ◌+◌, ◌-◌, ◌^◌, ◌<◌, ◌≤◌, true, false, List, [], ◌∷◌, ◌++◌, map, length, get_or, take, replicate, pos, decimal, sym, refl, ap, ◌∙◌, append_assoc, append-nil, add-zero, arith, length-append, rules}
 use Rattle.std.proofs.lemmas.List.{take_more, map_push, length-map, length-take}
 use Rattle.std.specs.Int.Digits.{number_from_digits, number_from_digits_after}
 use Rattle.std.proofs.lemmas.Simd.{length-replicate}
 use Rattle.std.proofs.lemmas.Str.Parse.{IsNumeralModel, numerals_by_fold}
 use Rattle.std.proofs.lemmas.Fmt.{digits_decimal, digits_value-decimal, length-decimal-le, decimal_nonempty}
+use Rattle.std.specs.Char.{encode_utf8}
+use Rattle.std.specs.Fmt.{char_count, format_spec, padded_integral}
+use Rattle.std.specs.List.{repeat}
 use Rattle.sheet.specs.Lines.{all_digits, digit_value}
-use Rattle.folding.specs.Columns.{entry_of, rows_of, ColumnsRead}
+use Rattle.folding.specs.Columns.{padded, entry_of, rows_of, ColumnsRead}
 
-replicate-suc : (k b : ℕ) → replicate (suc k) b ≡ replicate k b ++ (b ∷ [])
-replicate-suc zero b = refl
-replicate-suc (suc k) b = ap (λ l. b ∷ l) (replicate-suc k b)
+repeat-blank : (k : ℕ) → repeat k (encode_utf8 32) ≡ replicate k 32
+unfolding encode_utf8
+repeat-blank zero = refl
+repeat-blank (suc k) = ap (λ l. 32 ∷ l) (repeat-blank k)
 
-pub replicate_more : (j k b : ℕ) → j ≡ k + 1 → replicate j b ≡ replicate k b ++ (b ∷ [])
-replicate_more j k b e = ap (λ n. replicate n b) (e ∙ add-one k) ∙ replicate-suc k b
+-- what `{:>11}` writes
+pub written : (n : ℕ) → padded_integral (format_spec 32 3 0 11 (2 ^ 64 - 1)) false [] (decimal n) ≡ padded n
+unfolding padded_integral char_count
+written n =
+    let wide : 11 - length (decimal n) - 0 - 0 ≡ 11 - length (decimal n) = omega arith in
+    let none : 11 - length (decimal n) - (11 - length (decimal n)) ≡ 0 = omega arith in
+    rw (wide, none, repeat-blank (11 - length (decimal n))) (simp append-nil)
 
 pub rows_push : (w k : ℕ) (ns : List ℕ) (n : ℕ) → rows_of w k (ns ++ (n ∷ [])) ≡ rows_of w k ns ++ entry_of w (k + length ns) n
 rows_push w k [] n = append-nil (entry_of w k n) ∙ ap (λ i. entry_of w i n) (sym (add-zero k))

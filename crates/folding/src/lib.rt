@@ -26,6 +26,6 @@ pub fn fold<F: Field + Clone>(heap: Global, bytes: &[u8]) -> Result<Folded<F>, S
     let sheet = read_sheet::<F>(heap, bytes)?;
     let n = sheet.width;
     let mut matrix = vec![in heap; F::zero(); n * n]?;
-    circulant_to_dense(sheet.column.as_slice(), matrix.as_mut_slice())?;
+    circulant_to_dense(&sheet.column, &mut matrix)?;
     Ok(Folded { sheet, matrix })
 }

@@ -13,9 +13,9 @@ pub fn circulant_to_dense<F: Field>(column: &[i64], dense: &mut [F]) -> Result<(
     if dense.len() != n * n {
         return Err(Refusal::TablesLength);
     }
-    for k in 0..n * n {
+    for (k, entry) in dense.iter_mut().enumerate() {
         let (i, j) = (k / n, k % n);
-        dense[k] = F::from_i64(column[(n + i - j) % n]);
+        *entry = F::from_i64(column[(n + i - j) % n]);
     }
     Ok(())
 }

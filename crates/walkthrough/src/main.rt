@@ -12,8 +12,17 @@ use std::io;
 use worked::worked_values;
 
 // A customer's parameter sheet.
-const SHEET: &str =
-    "          2          6          2\n          2          1\n          1          0\n          0          1\n          2          2\n          3          4\n          5          6\n          0          0\n          1          1\n          3          0\n";
+const SHEET: &str = "          2          6          2
+          2          1
+          1          0
+          0          1
+          2          2
+          3          4
+          5          6
+          0          0
+          1          1
+          3          0
+";
 
 fn main(rt: HostRuntime) -> io::Result<()> {
     rt.println(
@@ -27,48 +36,47 @@ fn main(rt: HostRuntime) -> io::Result<()> {
 }
 
 // What was read of a sheet and folded from it, or why it is refused.
-fn tell(rt: &HostRuntime, bytes: &[u8]) -> io::Result<()> {
+fn tell(rt: &(impl Print + AllocGlobal), bytes: &[u8]) -> io::Result<()> {
     match fold::<F17>(rt.alloc(), bytes) {
         Ok(folded) => tell_folded(rt, &folded),
-        Err(SheetError::Refused(refusal)) => {
-            let number = refusal.number();
-            let place = refusal.place();
-            println!(rt; "   answered: refusal {number} at {place}")
-        }
+        Err(SheetError::Refused(refusal)) => println!(rt; "   answered: {refusal}"),
         Err(SheetError::Memory) => rt.println("   answered: memory is wanting"),
     }
 }
 
-fn tell_folded(rt: &HostRuntime, folded: &Folded<F17>) -> io::Result<()> {
+fn tell_folded(rt: &(impl Print + AllocGlobal), folded: &Folded<F17>) -> io::Result<()> {
     let sheet = &folded.sheet;
-    let width = sheet.width;
-    let full = sheet.rounds_f;
-    let partial = sheet.rounds_p;
-    println!(rt; "2. It is read in the field of 17: a state has {width} elements,")?;
-    println!(rt; "   {full} full and {partial} partial rounds. The constants, a line a round:")?;
-    rt.print(rows_text(rt.alloc(), width, sheet.constants.as_slice())?.as_str())?;
+    println!(rt;
+        "2. It is read in the field of 17: a state has {} elements,",
+        sheet.width
+    )?;
+    println!(rt;
+        "   {} full and {} partial rounds. The constants, a line a round:",
+        sheet.rounds_f, sheet.rounds_p
+    )?;
+    rt.print(rows_text(rt.alloc(), sheet.width, &sheet.constants)?)?;
     rt.println(
         "3. The column is expanded: M, row by row. Each column is the one before it, moved down.",
     )?;
-    rt.print(rows_text(rt.alloc(), width, folded.matrix.as_slice())?.as_str())
+    rt.print(rows_text(rt.alloc(), sheet.width, &folded.matrix)?)
 }
 
 // The product of the elements for `a` and `b`: the element for the whole number `a` times `b`, in every field.
 fn product<F: Field>(a: i32, b: i32) -> F
     ensures { F.Field.value result ≡ integer F.Field.ring (a *ℤ b) }
 {
-    F::from_i64(a as i64).mul(F::from_i64(b as i64))
+    F::from_i64(i64::from(a)).mul(F::from_i64(i64::from(b)))
 }
 
 // The field's product beside the remainder of the product of whole numbers.
-fn tell_product<const P: u32>(rt: &HostRuntime, a: i32, b: i32) -> io::Result<()>
+fn tell_product<const P: u32>(rt: &impl Print, a: i32, b: i32) -> io::Result<()>
 where
     Residue<P>: Modulus<P>,
 {
     let residue = product::<Residue<P>>(a, b).as_canonical_u32();
-    let whole = a as i64 * b as i64;
-    let remainder = whole.rem_euclid(P as i64);
-    let verdict = if residue as i64 == remainder {
+    let whole = i64::from(a) * i64::from(b);
+    let remainder = whole.rem_euclid(i64::from(P));
+    let verdict = if i64::from(residue) == remainder {
         "agree"
     } else {
         "DIFFER"
@@ -78,7 +86,7 @@ where
     )
 }
 
-fn tell_products(rt: &HostRuntime) -> io::Result<()> {
+fn tell_products(rt: &impl Print) -> io::Result<()> {
     rt.println(
         "4. The bench that prepares, the card that runs and the verifier share one arithmetic.\n   So its products are held to those of whole numbers:",
     )?;
@@ -90,7 +98,7 @@ fn tell_products(rt: &HostRuntime) -> io::Result<()> {
     tell_product::<2013265921>(rt, i32::MAX, i32::MAX)
 }
 
-fn tell_small_field(rt: &HostRuntime) -> io::Result<()> {
+fn tell_small_field(rt: &impl Print) -> io::Result<()> {
     let [minus_one, minus_modulus, least] = worked_values();
     rt.println(
         "5. Whole numbers of either sign enter a field as sums of ones. In the field of 17:",
@@ -100,7 +108,7 @@ fn tell_small_field(rt: &HostRuntime) -> io::Result<()> {
     )
 }
 
-fn tell_damaged(rt: &HostRuntime) -> io::Result<()> {
+fn tell_damaged(rt: &(impl Print + AllocGlobal)) -> io::Result<()> {
     rt.println("6. A plus sign on line 3: the line is answered, and nothing is guessed.")?;
     tell_with(rt, 66, b'+')?;
     rt.println("   A width of 1:")?;
@@ -113,10 +121,10 @@ fn tell_damaged(rt: &HostRuntime) -> io::Result<()> {
 }
 
 // The sheet with one byte changed.
-fn tell_with(rt: &HostRuntime, at: usize, byte: u8) -> io::Result<()> {
+fn tell_with(rt: &(impl Print + AllocGlobal), at: usize, byte: u8) -> io::Result<()> {
     let mut bytes = SHEET.as_bytes().to_vec(rt.alloc())?;
     if let Some(place) = bytes.get_mut(at) {
         *place = byte;
     }
-    tell(rt, bytes.as_slice())
+    tell(rt, &bytes)
 }
