@@ -1,6 +1,7 @@
 use field::Field;
 use field::refusal::Refusal;
 use field::residue::F17;
+use ring::Ring;
 use poseidon1::utils::circulant_to_dense;
 use std::process::Abort;
 

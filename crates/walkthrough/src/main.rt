@@ -63,9 +63,9 @@ fn tell_folded(rt: &(impl Print + AllocGlobal), folded: &Folded<F17>) -> io::Res
 
 // The product of the elements for `a` and `b`: the element for the whole number `a` times `b`, in every field.
 fn product<F: Field>(a: i32, b: i32) -> F
-    ensures { F.Field.value result ≡ integer F.Field.ring (a *ℤ b) }
+    ensures { F.Ring.value result ≡ integer F.Ring.ring (a *ℤ b) }
 {
-    F::from_i64(i64::from(a)).mul(F::from_i64(i64::from(b)))
+    F::from_i64(i64::from(a)) * F::from_i64(i64::from(b))
 }
 
 // The field's product beside the remainder of the product of whole numbers.

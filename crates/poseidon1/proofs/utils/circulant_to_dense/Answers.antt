@@ -11,5 +11,5 @@ loop-k-init g c = refl
 
 pub loop-k-preserved : goal.loop-k-preserved
 loop-k-preserved g c =
-    written_more g.F.Field.value _ c.loop-k.dense c.loop-k.k c.from_i64.result (omega arith) c.loop-k.invariant
-    (c.from_i64.ensures ∙ ap (integer g.F.Field.ring) (omega (arith, ints)))
+    written_more g.F.Ring.value _ c.loop-k.dense c.loop-k.k c.from_i64.result (omega arith) c.loop-k.invariant
+    (c.from_i64.ensures ∙ ap (integer g.F.Ring.ring) (omega (arith, ints)))
