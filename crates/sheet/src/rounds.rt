@@ -31,7 +31,7 @@ pub(crate) fn check_rounds(bytes: &[u8], width: usize, count: usize) -> Result<(
 
 // Puts the field's elements for `numbers` behind `constants`.
 fn append<F: Field>(constants: &mut Vec<F>, numbers: &[i64]) -> Result<(), AllocError>
-    ensures { OnOk result (map F.Ring.value constants.new.items ≡ map F.Ring.value constants.old.items ++ map (integer F.Ring.ring) numbers.now) }
+    ensures { OnOk result (map F.Field.value constants.new.items ≡ map F.Field.value constants.old.items ++ map (integer F.Field.ring) numbers.now) }
 {
     for n in numbers {
         constants.push(F::from_i64(*n))?;
@@ -48,7 +48,7 @@ pub(crate) fn read_rounds<F: Field>(
 ) -> Result<Vec<F>, AllocError>
     requires wide { width ≤ 24 }
     requires checked { is_ok (rows_at width count 3 bytes.now) ≡ true }
-    ensures { IfOk result (λ v. (zs : List ℤ) × (rows_at width count 3 bytes.now ≡ Ok zs) × (map F.Ring.value v.items ≡ map (integer F.Ring.ring) zs)) }
+    ensures { IfOk result (λ v. (zs : List ℤ) × (rows_at width count 3 bytes.now ≡ Ok zs) × (map F.Field.value v.items ≡ map (integer F.Field.ring) zs)) }
 {
     let mut constants = Vec::new(heap);
     let mut numbers = [0; MAX_WIDTH];

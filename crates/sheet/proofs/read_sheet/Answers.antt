@@ -45,7 +45,7 @@ returns g c =
       shape = record {
         sizes = w.sizes;
         square = c.in_ok-column.column.ok.0 ∙ ap length column ∙ w.square;
-        rounds = c.in_ok-constants.constants.ok.0 ∙ sym (length-map _ g.F.Ring.value) ∙ ap length k.2 ∙ length-map k.0 (integer g.F.Ring.ring) ∙ w.rounds;
+        rounds = c.in_ok-constants.constants.ok.0 ∙ sym (length-map _ g.F.Field.value) ∙ ap length k.2 ∙ length-map k.0 (integer g.F.Field.ring) ∙ w.rounds;
       };
       grammar = grammar_holds;
     }

@@ -6,7 +6,7 @@ use Rattle.sheet.proofs.Rows.{ahead_none, rows_more, rows_bad, rows_whole, ok_no
 use Rattle.sheet.proofs.rounds.read_rounds.Goals as goal
 
 pub loop-init : goal.loop-init
-loop-init g c = let e : c.args.count - 0 ≡ c.args.count = omega arith in ([], ahead_none _ ∙ ap (λ m. rows_at c.args.width m 3 c.args.bytes.now) e, ap (map g.F.Ring.value) c.new-constants.ensures.items)
+loop-init g c = let e : c.args.count - 0 ≡ c.args.count = omega arith in ([], ahead_none _ ∙ ap (λ m. rows_at c.args.width m 3 c.args.bytes.now) e, ap (map g.F.Field.value) c.new-constants.ensures.items)
 
 pub unreachable-requires : goal.unreachable-requires
 unreachable-requires g c =
@@ -17,7 +17,7 @@ unreachable-requires g c =
 
 pub loop-preserved : goal.loop-preserved
 loop-preserved g c =
-    let f = integer g.F.Ring.ring in
+    let f = integer g.F.Field.ring in
     let k = c.args.width in
     let long : length c.loop.row ≡ k = search rules in
     let n = c.args.count - c.loop.counter in

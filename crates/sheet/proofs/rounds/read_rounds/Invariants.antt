@@ -9,4 +9,4 @@ abbrev pub invariant-loop : goal.invariant-loop
 invariant-loop g l =
     (zs : List ℤ)
     × (ahead zs (rows_at l.width (l.count - l.counter) (3 + l.counter) l.rest) ≡ rows_at l.width l.count 3 l.initial.rest)
-    × (map g.F.Ring.value (vec_items l.constants) ≡ map (integer g.F.Ring.ring) zs)
+    × (map g.F.Field.value (vec_items l.constants) ≡ map (integer g.F.Field.ring) zs)
