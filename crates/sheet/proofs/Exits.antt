@@ -5,6 +5,7 @@ use Rattle.field.specs.declared.refusal.Refusal.TheVariants.{Line}
 use Rattle.sheet.specs.Lines.{lines}
 use Rattle.sheet.specs.Places.{line_at, rows_at}
 use Rattle.sheet.specs.Sheets.{Parameters, size_at, size_refused, with_column, sized, headed, of_lines, sheet_of}
+use Rattle.sheet.specs.Rows.{numbers_of}
 use Rattle.sheet.specs.Forms.{Checked}
 use Rattle.sheet.specs.declared.form.Form.{Form}
 use Rattle.sheet.proofs.Cuts.{later, cut_sheet}
@@ -38,5 +39,5 @@ accepted n f p zs (Err q) h = absurd (grind arith)
 
 pub checked : (bs : List ℕ) (f : Form) → Checked bs f → (m : Parameters) × (sheet_of bs ≡ Ok m)
 checked bs f h =
-    let a = accepted f.sizes.width f.sizes.rounds_f f.sizes.rounds_p (take f.sizes.width f.column) _ h.accepted in
+    let a = accepted f.sizes.width f.sizes.rounds_f f.sizes.rounds_p (numbers_of f.column) _ h.accepted in
     (a.0, h.says ∙ a.1)

@@ -7,8 +7,8 @@ ghost use Rattle.sheet.specs.Sheets.{Shaped};
 
 use error::SheetError;
 use field::Field;
-use form::{Form, Sizes, check_form};
-use rounds::read_rounds;
+use form::{Form, check_form};
+use sizes::Sizes;
 use std::alloc::Global;
 
 pub mod error;
@@ -16,6 +16,8 @@ mod form;
 mod line;
 mod number;
 mod rounds;
+mod row;
+mod sizes;
 
 // The parameters of a permutation.
 #[derive(Drop)]
@@ -46,8 +48,8 @@ pub fn read_sheet<F: Field>(heap: Global, bytes: &[u8]) -> Result<Sheet<F>, Shee
         rounds_p,
     } = sizes;
     // from here on only memory can be wanting
-    let column = column[0..width].to_vec(heap)?;
-    let constants = read_rounds(heap, rounds, width, rounds_f + rounds_p)?;
+    let column = column.as_slice().to_vec(heap)?;
+    let constants = rounds.read(heap)?;
     Ok(Sheet {
         width,
         rounds_f,

@@ -1,10 +1,7 @@
 ghost use Rattle.std.specs.Prelude.{◌≡◌, ◌+◌, ◌*◌, length, drop, Some, None, MatchOption};
 ghost use Rattle.sheet.specs.Places.{line_at};
 
-use crate::number::read_field;
-
-// How many columns a field has.
-const COLUMNS: usize = 11;
+use crate::number::{COLUMNS, read_field};
 
 // Fills `numbers` from the line that `bytes` begins with, and answers what follows that line;
 // nothing where they begin with no line of so many numbers.
@@ -13,10 +10,7 @@ pub(crate) fn read_line<'a>(bytes: &'a [u8], numbers: &mut [i64]) -> Option<&'a 
 {
     let mut rest = bytes;
     for n in numbers.iter_mut() {
-        if rest.len() < COLUMNS {
-            return None;
-        }
-        let (field, more) = rest.split_at(COLUMNS);
+        let (field, more) = rest.split_first_chunk::<COLUMNS>()?;
         *n = read_field(field)?;
         rest = more;
     }

@@ -6,17 +6,18 @@ use Rattle.sheet.specs.Places.{line_at}
 use Rattle.sheet.proofs.Lines.{after_all, line_some, drop_some, line_none, line_end, rest_end, field_full, field_short}
 use Rattle.sheet.proofs.line.read_line.Goals as goal
 
-pub returns-then-rest-lt-COLUMNS : goal.returns-then-rest-lt-COLUMNS
-returns-then-rest-lt-COLUMNS c =
+pub returns-in_err-field : goal.returns-in_err-field
+returns-in_err-field c =
     let k = length c.loop-n.numbers - c.loop-n.n-index in
-    sym c.loop-n.invariant.0 ∙ line_none k c.loop-n.rest.now (take c.loop-n.n-index c.loop-n.numbers) (omega arith) (field_short c.loop-n.rest.now (omega arith))
+    rw c.from_residual.ensures (sym c.loop-n.invariant.0 ∙ line_none k c.loop-n.rest.now (take c.loop-n.n-index c.loop-n.numbers) (omega arith) (field_short c.loop-n.rest.now c.in_err-field.ensures.cases))
 
 pub returns-in_err-n : goal.returns-in_err-n
 returns-in_err-n c =
     let k = length c.loop-n.numbers - c.loop-n.n-index in
     let xs = c.loop-n.rest.now in
-    let f = field_full xs (omega arith) ∙ ap text_value (sym c.split_at.ensures.front) ∙ sym c.in_err-n.ensures in
-    rw c.from_residual.ensures (sym c.loop-n.invariant.0 ∙ line_none k xs (take c.loop-n.n-index c.loop-n.numbers) (omega arith) f)
+    let e = c.in_ok-field.ensures.cases in
+    let f = field_full xs (omega (arith, e.2)) ∙ ap text_value (sym e.0) ∙ sym c.in_err-n.ensures in
+    rw c.from_residual-in_err-n.ensures (sym c.loop-n.invariant.0 ∙ line_none k xs (take c.loop-n.n-index c.loop-n.numbers) (omega arith) f)
 
 pub loop-n-preserved : goal.loop-n-preserved
 loop-n-preserved c =
@@ -31,9 +32,10 @@ loop-n-preserved c =
     let l = length-set ns i z' in
     let m = length (set ns i z') - (i + 1) in
     let e : length ns - i ≡ suc m = omega arith in
-    let t = c.in_ok-n.ensures ∙ ap text_value c.split_at.ensures.front in
-    let b = c.split_at.ensures.back in (
-      (λ t. after_all (p t) (line_at m (b t))) ∙ line_some m (length ns - i) xs (take i ns) z e (omega arith) t ∙ c.loop-n.invariant.0,
+    let k = c.in_ok-field.ensures.cases in
+    let t = c.in_ok-n.ensures ∙ ap text_value k.0 in
+    let b = k.1 in (
+      (λ t. after_all (p t) (line_at m (b t))) ∙ line_some m (length ns - i) xs (take i ns) z e (omega (arith, k.2)) t ∙ c.loop-n.invariant.0,
       ap (drop (11 * m + 1)) b ∙ drop_some m (length ns - i) xs e ∙ c.loop-n.invariant.1,
     )
 
