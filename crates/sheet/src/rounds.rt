@@ -78,10 +78,7 @@ impl<'a> Rounds<'a> {
 fn append<F: Field>(constants: &mut Vec<F>, numbers: &[i64]) -> Result<(), AllocError>
     ensures { OnOk result (map F.Field.value constants.new.items ≡ map F.Field.value constants.old.items ++ map (integer F.Field.ring) numbers.now) }
 {
-    let element = |n: &i64| -> F
-        ensures { F.Field.value result ≡ integer F.Field.ring n.now }
-    { F::from_i64(*n) };
-    constants.extend(numbers.iter().map(element))
+    constants.extend(numbers.iter().map(|n| F::from_i64(*n)))
 }
 
 // Row after row of the lines that are left, of which the next has the number `line`.

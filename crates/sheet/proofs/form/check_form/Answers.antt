@@ -1,0 +1,52 @@
+use Rattle.std.proofs.Common.{◌≡◌, ◌+◌, ◌*◌, drop, Some, None, ap, ◌∙◌, rules, arith}
+use Rattle.std.proofs.lemmas.Result.{err_from_is_err_and}
+use Rattle.sheet.specs.Places.{line_at}
+use Rattle.sheet.specs.Rows.{numbers_of}
+use Rattle.sheet.specs.Forms.{rounds_say}
+use Rattle.sheet.specs.Sheets.{sheet_of, with_column}
+use Rattle.sheet.proofs.Cuts.{later}
+use Rattle.sheet.proofs.Exits.{at_first, at_size, at_body, at_column, at_rounds}
+use Rattle.sheet.proofs.form.check_form.Goals as goal
+use Rattle.sheet.proofs.form.check_form.Goals.{In_ok-sizes, In_ok-column, After-new-rounds}
+
+pub returns-in_err-body : goal.returns-in_err-body
+returns-in_err-body c = search (rules, at_first)
+
+pub returns-in_err-sizes : goal.returns-in_err-sizes
+returns-in_err-sizes c =
+    let p = err_from_is_err_and c.from_residual-in_err-sizes.result c.from_residual-in_err-sizes.ensures.1 in
+    let k : line_at 3 c.args.bytes.now ≡ Some c.read_line.new.numbers = search rules in
+    rw (p.1, p.2) (at_size c.args.bytes.now c.read_line.new.numbers _ k c.in_err-sizes.ensures)
+
+-- past the sizes
+sized : (c : In_ok-sizes) → sheet_of c.args.bytes.now ≡ later c.in_ok-body.body.now c.in_ok-sizes.sizes.width c.in_ok-sizes.sizes.rounds_f c.in_ok-sizes.sizes.rounds_p
+sized c =
+    let k : (line_at 3 c.args.bytes.now ≡ Some c.read_line.new.numbers) × (c.in_ok-body.body.now ≡ drop 34 c.args.bytes.now) = search rules in
+    let s = c.in_ok-sizes.ensures in
+    at_body c.args.bytes.now c.read_line.new.numbers _ _ _ c.in_ok-body.body.now k.0 s.passed s.width s.full s.partial k.1
+
+pub returns-in_err-column : goal.returns-in_err-column
+returns-in_err-column c =
+    let s = c.in_ok-sizes.sizes in
+    let none : line_at s.width c.in_ok-body.body.now ≡ None = search rules in
+    let e = sized (goal.at.returns-in_err-column c).In_ok-sizes ∙ at_column c.in_ok-body.body.now s.width s.rounds_f s.rounds_p none in
+    search rules
+
+-- past the column
+columned : (c : After-new-rounds) → sheet_of c.args.bytes.now ≡ later c.in_ok-body.body.now c.in_ok-sizes.sizes.width c.in_ok-sizes.sizes.rounds_f c.in_ok-sizes.sizes.rounds_p → sheet_of c.args.bytes.now ≡ with_column c.in_ok-sizes.sizes.width c.in_ok-sizes.sizes.rounds_f c.in_ok-sizes.sizes.rounds_p (Some (numbers_of c.in_ok-column.column)) (rounds_say c.new-rounds.result)
+columned c e =
+    let s = c.in_ok-sizes.sizes in
+    let body = c.in_ok-body.body.now in
+    let k : (line_at s.width body ≡ Some (numbers_of c.in_ok-column.column)) × (c.in_ok-column.lines.now ≡ drop (11 * s.width + 1) body) = search rules in
+    let r = c.new-rounds.ensures in
+    rw (r.bytes, r.width, r.count) (e ∙ at_rounds body c.in_ok-column.lines.now s.width s.rounds_f s.rounds_p (numbers_of c.in_ok-column.column) k.0 k.1)
+
+pub returns-in_err-check : goal.returns-in_err-check
+returns-in_err-check c =
+    let p = err_from_is_err_and c.from_residual-in_err-check.result c.from_residual-in_err-check.ensures.1 in
+    let s = c.in_ok-sizes.sizes in
+    let e = columned (goal.at.returns-in_err-check c).After-new-rounds (sized (goal.at.returns-in_err-check c).In_ok-sizes) in
+    rw (p.1, p.2) (e ∙ ap (with_column s.width s.rounds_f s.rounds_p (Some (numbers_of c.in_ok-column.column))) c.in_err-check.ensures)
+
+pub returns : goal.returns
+returns c = record { says = columned (goal.at.returns c).After-new-rounds (sized (goal.at.returns c).In_ok-sizes); accepted = c.in_ok-check.ensures }
