@@ -7,8 +7,8 @@ use Rattle.sheet.specs.Lines.{lines}
 use Rattle.sheet.specs.Places.{line_at, rows_at}
 use Rattle.sheet.specs.Sheets.{Parameters, size_at, size_refused, with_column, sized, headed, of_lines}
 use Rattle.sheet.specs.Answers.{Reads}
-use Rattle.sheet.specs.Rows.{numbers_of, Stopped}
-use Rattle.sheet.specs.Forms.{Checked, rounds_say}
+use Rattle.sheet.specs.Rows.{numbers_of, rounds_say, Stopped}
+use Rattle.sheet.specs.Forms.{Checked}
 use Rattle.sheet.specs.declared.error.SheetError.{SheetError}
 use Rattle.sheet.specs.declared.error.SheetError.TheVariants.{Refused, Memory}
 use Rattle.sheet.specs.declared.form.Form.{Form}

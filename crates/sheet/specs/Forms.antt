@@ -1,11 +1,8 @@
 -- What is known of sizes and of a sheet that have been checked: for the contracts of private functions.
-use Rattle.std.specs.Prelude.{◌≡◌, ℕ, true, List, ℤ, is_ok, Some, None, Result}
-use Rattle.field.specs.declared.refusal.Refusal.{Refusal}
+use Rattle.std.specs.Prelude.{◌≡◌, ℕ, true, List, ℤ, is_ok, Some, None}
 use Rattle.sheet.specs.declared.sizes.Sizes.{Sizes}
-use Rattle.sheet.specs.declared.rounds.Rounds.{Rounds}
 use Rattle.sheet.specs.declared.form.Form.{Form}
-use Rattle.sheet.specs.Places.{rows_at}
-use Rattle.sheet.specs.Rows.{numbers_of}
+use Rattle.sheet.specs.Rows.{numbers_of, rounds_say}
 use Rattle.sheet.specs.Sheets.{size_at, size_refused, sheet_of, with_column}
 
 -- the sizes that the numbers zs of line 1 say
@@ -14,10 +11,6 @@ pub record SizesOf (zs : List ℤ) (s : Sizes) : Type 0 where
   pub width : s.width ≡ size_at zs 0
   pub full : s.rounds_f ≡ size_at zs 1
   pub partial : s.rounds_p ≡ size_at zs 2
-
--- what the lines of the rounds say
-abbrev pub rounds_say : Rounds → Result (List ℤ) Refusal
-rounds_say r = rows_at r.width r.count 3 r.bytes.now
 
 -- the sheet bs passed all checks of its form, and f holds its sizes, its column and the lines of its rounds
 pub record Checked (bs : List ℕ) (f : Form) : Type 0 where

@@ -3,7 +3,6 @@ ghost use Rattle.std.specs.Iterator.{at_most};
 ghost use Rattle.field.specs.declared.refusal.Refusal.TheVariants.{Line};
 ghost use Rattle.ring.specs.Rings.{integer};
 ghost use Rattle.sheet.specs.Places.{rows_at};
-ghost use Rattle.sheet.specs.Rows.{NextRow, Stopped};
 
 use crate::error::SheetError;
 use crate::row::Row;
@@ -23,10 +22,10 @@ pub(crate) struct Rounds<'a> {
 }
 
 impl<'a> Rounds<'a> {
+    ghost use Rattle.sheet.specs.Rows.{rounds_say, rows_say, Stopped};
+
     pub(crate) fn new(bytes: &'a [u8], sizes: Sizes) -> Rounds<'a>
-        ensures bytes { result.bytes.now ≡ bytes.entry.now }
-        ensures width { result.width ≡ sizes.width }
-        ensures count { result.count ≡ sizes.rounds_f + sizes.rounds_p }
+        ensures { rounds_say result ≡ rows_at sizes.width (sizes.rounds_f + sizes.rounds_p) 3 bytes.entry.now }
     {
         Rounds {
             bytes,
@@ -37,10 +36,7 @@ impl<'a> Rounds<'a> {
 
     // The first of the lines has the number 3.
     fn rows(self) -> Rows<'a>
-        ensures bytes { result.bytes.now ≡ self.entry.bytes.now }
-        ensures width { result.width ≡ self.entry.width }
-        ensures left { result.left ≡ self.entry.count }
-        ensures line { result.line ≡ 3 }
+        ensures { rows_say result ≡ rounds_say self.entry }
     {
         Rows {
             bytes: self.bytes,
@@ -52,7 +48,7 @@ impl<'a> Rounds<'a> {
 
     // Whether these lines and no other follow.
     pub(crate) fn check(self) -> Result<(), Refusal>
-        ensures { MatchResult result (λ _. is_ok (rows_at self.entry.width self.entry.count 3 self.entry.bytes.now) ≡ true) (λ q. rows_at self.entry.width self.entry.count 3 self.entry.bytes.now ≡ Err q) }
+        ensures { MatchResult result (λ _. is_ok (rounds_say self.entry) ≡ true) (λ q. rounds_say self.entry ≡ Err q) }
     {
         for row in self.rows() {
             row?;
@@ -60,11 +56,9 @@ impl<'a> Rounds<'a> {
         Ok(())
     }
 
-    // The constants of the lines.
+    // The constants that the lines say.
     pub(crate) fn read<F: Field>(self, heap: Global) -> Result<Vec<F>, SheetError>
-        ensures { MatchResult result
-            (λ v. (zs : List ℤ) × (rows_at self.entry.width self.entry.count 3 self.entry.bytes.now ≡ Ok zs) × (map F.Field.value v.items ≡ map (integer F.Field.ring) zs))
-            (Stopped (rows_at self.entry.width self.entry.count 3 self.entry.bytes.now)) }
+        ensures { MatchResult result (λ v. (zs : List ℤ) × (rounds_say self.entry ≡ Ok zs) × (map F.Field.value v.items ≡ map (integer F.Field.ring) zs)) (Stopped (rounds_say self.entry)) }
     {
         let mut constants = Vec::new(heap);
         for row in self.rows() {
@@ -106,9 +100,11 @@ impl Rows<'_> {
 }
 
 impl Iterator for Rows<'_> {
+    ghost use Rattle.sheet.specs.Rows.{rows_say, NextRow};
+
     type Item = Result<Row, Refusal>;
 
-    ghost next_gives = { λ s r t. NextRow (rows_at s.width s.left s.line s.bytes.now) r (rows_at t.width t.left t.line t.bytes.now) };
+    ghost next_gives = { λ s r t. NextRow (rows_say s) r (rows_say t) };
 
     ghost remaining = { λ s. at_most (s.left + length s.bytes.now) };
 

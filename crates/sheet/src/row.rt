@@ -1,4 +1,4 @@
-ghost use Rattle.std.specs.Prelude.{◌≡◌, ◌+◌, ◌*◌, ◌≤◌, length, take, drop, Some, None, MatchOption};
+ghost use Rattle.std.specs.Prelude.{◌≡◌, ◌+◌, ◌*◌, ◌≤◌, length, drop, Some, None, MatchOption};
 ghost use Rattle.sheet.specs.Places.{line_at};
 
 use crate::line::read_line;
@@ -13,10 +13,12 @@ pub(crate) struct Row {
 }
 
 impl Row {
+    ghost use Rattle.sheet.specs.Rows.{numbers_of};
+
     // The row of the line that `bytes` begin with, and what follows that line.
     pub(crate) fn read(bytes: &[u8], width: usize) -> Option<(Row, &[u8])>
         requires { width ≤ 24 }
-        ensures { MatchOption result (line_at width bytes.now ≡ None) (λ p. (line_at width bytes.now ≡ Some (take p.0.width p.0.numbers)) × (p.1.now ≡ drop (11 * width + 1) bytes.now)) }
+        ensures { MatchOption result (line_at width bytes.now ≡ None) (λ p. (line_at width bytes.now ≡ Some (numbers_of p.0)) × (p.1.now ≡ drop (11 * width + 1) bytes.now)) }
     {
         let mut numbers = [0; MAX_WIDTH];
         let rest = read_line(bytes, &mut numbers[0..width])?;
@@ -24,7 +26,7 @@ impl Row {
     }
 
     pub(crate) fn as_slice(&self) -> &[i64]
-        ensures { result.now ≡ take self.now.width self.now.numbers }
+        ensures { result.now ≡ numbers_of self.now }
     {
         &self.numbers[0..self.width]
     }

@@ -1,8 +1,7 @@
 use Rattle.std.proofs.Common.{◌≡◌, ◌+◌, ◌*◌, drop, Some, None, ap, ◌∙◌, rules}
 use Rattle.std.proofs.lemmas.Result.{err_from_is_err_and}
 use Rattle.sheet.specs.Places.{line_at}
-use Rattle.sheet.specs.Rows.{numbers_of}
-use Rattle.sheet.specs.Forms.{rounds_say}
+use Rattle.sheet.specs.Rows.{numbers_of, rounds_say}
 use Rattle.sheet.specs.Sheets.{sheet_of, with_column}
 use Rattle.sheet.proofs.Cuts.{later}
 use Rattle.sheet.proofs.Exits.{at_first, at_size, at_body, at_column, at_rounds}
@@ -38,8 +37,7 @@ columned c e =
     let s = c.in_ok-sizes.sizes in
     let body = c.in_ok-body.body.now in
     let k : (line_at s.width body ≡ Some (numbers_of c.in_ok-column.column)) × (c.in_ok-column.lines.now ≡ drop (11 * s.width + 1) body) = search rules in
-    let r = c.new-rounds.ensures in
-    rw (r.bytes, r.width, r.count) (e ∙ at_rounds body c.in_ok-column.lines.now s.width s.rounds_f s.rounds_p (numbers_of c.in_ok-column.column) k.0 k.1)
+    rw c.new-rounds.ensures (e ∙ at_rounds body c.in_ok-column.lines.now s.width s.rounds_f s.rounds_p (numbers_of c.in_ok-column.column) k.0 k.1)
 
 pub returns-in_err-check : goal.returns-in_err-check
 returns-in_err-check c =
