@@ -5,6 +5,7 @@ use crate::number::{COLUMNS, read_field};
 
 // Fills `numbers` from the line that `bytes` begins with, and answers what follows that line;
 // nothing where they begin with no line of so many numbers.
+#[tactic(auto, using(crate::proofs::Lines::line_steps))]
 pub(crate) fn read_line<'a>(bytes: &'a [u8], numbers: &mut [i64]) -> Option<&'a [u8]>
     ensures { MatchOption result (line_at (length numbers.old) bytes.now ≡ None) (λ rest. (line_at (length numbers.old) bytes.now ≡ Some numbers.new) × (rest.now ≡ drop (11 * length numbers.old + 1) bytes.now)) }
 {

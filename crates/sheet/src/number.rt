@@ -14,6 +14,7 @@ struct Columns<'a> {
 
 impl Columns<'_> {
     // One digit or more.
+    #[tactic(auto, using(crate::proofs::Texts::digit_steps))]
     fn digits(self) -> Option<u64>
         ensures value { result ≡ digits_value self.entry.bytes.now }
         ensures small { Small result }
