@@ -1,6 +1,5 @@
-use Rattle.std.proofs.Common.{◌≡◌, length, Some, Ok, sym, ap, ◌∙◌}
+use Rattle.std.proofs.Common.{◌≡◌, length, Some, Ok, sym, ap, ◌∙◌, rules}
 use Rattle.std.proofs.lemmas.List.{length-map}
-use Rattle.std.proofs.lemmas.Result.{err_from_is_err_and}
 use Rattle.ring.specs.Rings.{integer}
 use Rattle.sheet.specs.declared.error.SheetError.TheVariants.{Memory}
 use Rattle.sheet.specs.Lines.{lines}
@@ -12,13 +11,13 @@ use Rattle.sheet.proofs.read_sheet.Goals as goal
 
 pub returns-in_err-column-clause-reads : goal.returns-in_err-column-clause-reads
 returns-in_err-column-clause-reads g c =
-    let p = err_from_is_err_and c.from_residual-in_err-column.result c.from_residual-in_err-column.ensures.1 in
-    rw (p.1, p.2) (stopped g.F.Field.ring g.F.Field.value c.args.bytes.now c.in_ok-sizes.field-0 (Memory _) c.in_ok-sizes.ensures tt)
+    let h = stopped g.F.Field.ring g.F.Field.value c.args.bytes.now c.in_ok-sizes.field-0 (Memory c.in_err-column.field-0.0) c.in_ok-sizes.ensures tt in
+    search rules
 
 pub returns-in_err-constants-clause-reads : goal.returns-in_err-constants-clause-reads
 returns-in_err-constants-clause-reads g c =
-    let p = err_from_is_err_and c.from_residual-in_err-constants.result c.from_residual-in_err-constants.ensures.1 in
-    rw (p.1, p.2) (stopped g.F.Field.ring g.F.Field.value c.args.bytes.now c.in_ok-sizes.field-0 _ c.in_ok-sizes.ensures c.in_err-constants.ensures)
+    let h = stopped g.F.Field.ring g.F.Field.value c.args.bytes.now c.in_ok-sizes.field-0 c.in_err-constants.field-0.0 c.in_ok-sizes.ensures c.in_err-constants.ensures in
+    search rules
 
 pub returns-clause-shape : goal.returns-clause-shape
 returns-clause-shape g c =

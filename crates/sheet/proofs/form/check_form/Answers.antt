@@ -1,5 +1,4 @@
 use Rattle.std.proofs.Common.{◌≡◌, ◌+◌, ◌*◌, drop, Some, None, ap, ◌∙◌, rules}
-use Rattle.std.proofs.lemmas.Result.{err_from_is_err_and}
 use Rattle.sheet.specs.Places.{line_at}
 use Rattle.sheet.specs.Rows.{numbers_of, rounds_say}
 use Rattle.sheet.specs.Sheets.{sheet_of, with_column}
@@ -13,9 +12,9 @@ returns-in_err-body c = search (rules, at_first)
 
 pub returns-in_err-sizes : goal.returns-in_err-sizes
 returns-in_err-sizes c =
-    let p = err_from_is_err_and c.from_residual-in_err-sizes.result c.from_residual-in_err-sizes.ensures.1 in
     let k : line_at 3 c.args.bytes.now ≡ Some c.read_line.new.numbers = search rules in
-    rw (p.1, p.2) (at_size c.args.bytes.now c.read_line.new.numbers _ k c.in_err-sizes.ensures)
+    let e = at_size c.args.bytes.now c.read_line.new.numbers _ k c.in_err-sizes.ensures in
+    search rules
 
 -- past the sizes
 sized : (c : In_ok-sizes) → sheet_of c.args.bytes.now ≡ later c.in_ok-body.body.now c.in_ok-sizes.sizes.width c.in_ok-sizes.sizes.rounds_f c.in_ok-sizes.sizes.rounds_p
@@ -41,10 +40,9 @@ columned c e =
 
 pub returns-in_err-check : goal.returns-in_err-check
 returns-in_err-check c =
-    let p = err_from_is_err_and c.from_residual-in_err-check.result c.from_residual-in_err-check.ensures.1 in
     let s = c.in_ok-sizes.sizes in
-    let e = columned (goal.at.returns-in_err-check c).After-new-rounds (sized (goal.at.returns-in_err-check c).In_ok-sizes) in
-    rw (p.1, p.2) (e ∙ ap (with_column s.width s.rounds_f s.rounds_p (Some (numbers_of c.in_ok-column.column))) c.in_err-check.ensures)
+    let e = columned (goal.at.returns-in_err-check c).After-new-rounds (sized (goal.at.returns-in_err-check c).In_ok-sizes) ∙ ap (with_column s.width s.rounds_f s.rounds_p (Some (numbers_of c.in_ok-column.column))) c.in_err-check.ensures in
+    search rules
 
 pub returns : goal.returns
 returns c = record { says = columned (goal.at.returns c).After-new-rounds (sized (goal.at.returns c).In_ok-sizes); accepted = c.in_ok-check.ensures }
