@@ -5,7 +5,7 @@ use Rattle.sheet.specs.Sheets.{sheet_of, with_column}
 use Rattle.sheet.proofs.Cuts.{later}
 use Rattle.sheet.proofs.Exits.{at_first, at_size, at_body, at_column, at_rounds}
 use Rattle.sheet.proofs.form.check_form.Goals as goal
-use Rattle.sheet.proofs.form.check_form.Goals.{In_ok-sizes, In_ok-column, After-new-rounds}
+use Rattle.sheet.proofs.form.check_form.Goals.{In_ok-sizes, After-new-rounds}
 
 pub returns-in_err-body : goal.returns-in_err-body
 returns-in_err-body c = search (rules, at_first)
