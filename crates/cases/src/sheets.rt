@@ -13,18 +13,13 @@ const LINES: usize = 9;
 
 // That sheet with `text` in the place of its line `at`, counted from 1.
 fn with_line(heap: Global, at: usize, text: &str) -> Result<String, AllocError> {
-    let mut sheet = String::new(heap);
-    for i in 0..LINES {
-        let line = if i + 1 == at {
-            text
-        } else if i == 0 {
-            SIZES
-        } else {
-            ROUND
-        };
-        sheet.push_str(line)?;
-    }
-    Ok(sheet)
+    (1..=LINES)
+        .map(|line| match line {
+            _ if line == at => text,
+            1 => SIZES,
+            _ => ROUND,
+        })
+        .collect(heap)
 }
 
 // Number and place of the refusal; nothing where the sheet is read.
@@ -32,7 +27,7 @@ fn refusal(heap: Global, sheet: &str) -> Result<Option<(u8, usize)>, AllocError>
     match read_sheet::<F17>(heap, sheet.as_bytes()) {
         Ok(_) => Ok(None),
         Err(SheetError::Refused(refusal)) => Ok(Some((refusal.number(), refusal.place()))),
-        Err(SheetError::Memory) => Err(AllocError),
+        Err(SheetError::Memory(error)) => Err(error),
     }
 }
 

@@ -15,6 +15,6 @@ pub fn fold_text(heap: Global, bytes: &[u8]) -> Result<String, AllocError>
     match fold::<F17>(heap, bytes) {
         Ok(folded) => rows_text(heap, folded.sheet.width, folded.matrix.as_slice()),
         Err(SheetError::Refused(refusal)) => refusal_text(heap, refusal),
-        Err(SheetError::Memory) => Err(AllocError),
+        Err(SheetError::Memory(error)) => Err(error),
     }
 }

@@ -1,11 +1,16 @@
 -- What a sheet is, by what the reader knows where it stops.
-use Rattle.std.proofs.Common.{◌≡◌, ℕ, ◌+◌, ◌*◌, true, List, take, drop, ℤ, is_ok, Some, None, Ok, Err, Result, sym, refl, ap, ◌∙◌, arith}
+use Rattle.std.proofs.Common.{◌≡◌, ℕ, ◌+◌, ◌*◌, true, List, drop, ℤ, is_ok, Some, None, Ok, Err, Result, sym, refl, ap, ◌∙◌, arith}
+use Rattle.ring.specs.Rings.{RingOn}
 use Rattle.field.specs.declared.refusal.Refusal.{Refusal}
 use Rattle.field.specs.declared.refusal.Refusal.TheVariants.{Line}
 use Rattle.sheet.specs.Lines.{lines}
 use Rattle.sheet.specs.Places.{line_at, rows_at}
-use Rattle.sheet.specs.Sheets.{Parameters, size_at, size_refused, with_column, sized, headed, of_lines, sheet_of}
+use Rattle.sheet.specs.Sheets.{Parameters, size_at, size_refused, with_column, sized, headed, of_lines}
+use Rattle.sheet.specs.Answers.{Reads}
+use Rattle.sheet.specs.Rows.{numbers_of, rounds_say, Stopped}
 use Rattle.sheet.specs.Forms.{Checked}
+use Rattle.sheet.specs.declared.error.SheetError.{SheetError}
+use Rattle.sheet.specs.declared.error.SheetError.TheVariants.{Refused, Memory}
 use Rattle.sheet.specs.declared.form.Form.{Form}
 use Rattle.sheet.proofs.Cuts.{later, cut_sheet}
 
@@ -36,7 +41,9 @@ pub accepted : (n f p : ℕ) (zs : List ℤ) (r : Result (List ℤ) Refusal) →
 accepted n f p zs (Ok ws) h = (record { width = n; full = f; partial = p; column = zs; constants = ws }, refl)
 accepted n f p zs (Err q) h = absurd (grind arith)
 
-pub checked : (bs : List ℕ) (f : Form) → Checked bs f → (m : Parameters) × (sheet_of bs ≡ Ok m)
-checked bs f h =
-    let a = accepted f.sizes.width f.sizes.rounds_f f.sizes.rounds_p (take f.sizes.width f.column) _ h.accepted in
-    (a.0, h.says ∙ a.1)
+-- what the reader answers where its form is checked and the reading of the rounds stopped
+pub stopped : {F : Type 0} (R : RingOn) (value : F → R.V) (bs : List ℕ) (f : Form) (e : SheetError) → Checked bs f → Stopped (rounds_say f.rounds) e → Reads R value bs (Err e)
+stopped R value bs f (Refused q) h s = h.says ∙ ap (with_column f.sizes.width f.sizes.rounds_f f.sizes.rounds_p (Some (numbers_of f.column))) s
+stopped R value bs f (Memory a) h s =
+    let m = accepted f.sizes.width f.sizes.rounds_f f.sizes.rounds_p (numbers_of f.column) (rounds_say f.rounds) h.accepted in
+    (m.0, h.says ∙ m.1)

@@ -18,4 +18,4 @@ pub record Holds {F : Type 0} (R : RingOn) (value : F → R.V) (s : Sheet F) (m 
 abbrev pub Reads : {F : Type 0} (R : RingOn) → (F → R.V) → List ℕ → Result (Sheet F) SheetError → Type 0
 Reads R value bs (Ok s) = (m : Parameters) × (sheet_of bs ≡ Ok m) × Holds R value s m
 Reads R value bs (Err (Refused q)) = sheet_of bs ≡ Err q
-Reads R value bs (Err Memory) = (m : Parameters) × (sheet_of bs ≡ Ok m)
+Reads R value bs (Err (Memory a)) = (m : Parameters) × (sheet_of bs ≡ Ok m)

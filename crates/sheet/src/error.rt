@@ -1,15 +1,35 @@
-ghost use Rattle.std.specs.Prelude.{◌≡◌};
+ghost use Rattle.std.specs.Prelude.{◌≡◌, Some};
 ghost use Rattle.sheet.specs.declared.error.SheetError.TheVariants.{Refused, Memory};
+ghost use Rattle.sheet.specs.Errors.{error_text};
 
 use field::refusal::Refusal;
 use std::alloc::AllocError;
+use std::error::Error;
+use std::fmt;
 
 // Why there is no sheet: the bytes are none, or memory is wanting for one.
 #[derive(Clone, Copy, Debug)]
 pub enum SheetError {
     Refused(Refusal),
-    Memory,
+    Memory(AllocError),
 }
+
+impl fmt::Display for SheetError {
+    ghost output = { λ e. Some (error_text e) };
+
+    fn fmt<W: fmt::Write>(&self, f: &mut fmt::Formatter<W>) -> fmt::Result {
+        match self {
+            SheetError::Refused(why) => {
+                let number = why.number();
+                let place = why.place();
+                write!(f, "refusal {number} at {place}")
+            }
+            SheetError::Memory(_) => write!(f, "memory is wanting"),
+        }
+    }
+}
+
+impl Error for SheetError {}
 
 impl From<Refusal> for SheetError {
     ghost from_gives = { λ q r. r ≡ Refused q };
@@ -20,9 +40,9 @@ impl From<Refusal> for SheetError {
 }
 
 impl From<AllocError> for SheetError {
-    ghost from_gives = { λ _ r. r ≡ Memory };
+    ghost from_gives = { λ a r. r ≡ Memory a };
 
-    fn from(_error: AllocError) -> SheetError {
-        SheetError::Memory
+    fn from(error: AllocError) -> SheetError {
+        SheetError::Memory(error)
     }
 }

@@ -7,8 +7,8 @@ ghost use Rattle.sheet.specs.Sheets.{Shaped};
 
 use error::SheetError;
 use field::Field;
-use form::{Form, Sizes, check_form};
-use rounds::read_rounds;
+use form::{Form, check_form};
+use sizes::Sizes;
 use std::alloc::Global;
 
 pub mod error;
@@ -16,6 +16,8 @@ mod form;
 mod line;
 mod number;
 mod rounds;
+mod row;
+mod sizes;
 
 // The parameters of a permutation.
 #[derive(Drop)]
@@ -30,6 +32,7 @@ pub struct Sheet<F> {
 }
 
 // The sheet that `bytes` are, or why they are none.
+#[tactic(auto, using(crate::proofs::GrammarHolds::grammar_holds))]
 pub fn read_sheet<F: Field>(heap: Global, bytes: &[u8]) -> Result<Sheet<F>, SheetError>
     ensures reads { Reads F.Field.ring F.Field.value bytes.now result }
     ensures shape { IfOk result (λ s. Shaped s.width s.rounds_f s.rounds_p (vec_len s.column) (vec_len s.constants)) }
@@ -46,8 +49,8 @@ pub fn read_sheet<F: Field>(heap: Global, bytes: &[u8]) -> Result<Sheet<F>, Shee
         rounds_p,
     } = sizes;
     // from here on only memory can be wanting
-    let column = column[0..width].to_vec(heap)?;
-    let constants = read_rounds(heap, rounds, width, rounds_f + rounds_p)?;
+    let column = column.as_slice().to_vec(heap)?;
+    let constants = rounds.read(heap)?;
     Ok(Sheet {
         width,
         rounds_f,

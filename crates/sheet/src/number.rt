@@ -2,52 +2,56 @@ ghost use Rattle.std.specs.Prelude.{◌≡◌, ◌≤◌, length};
 ghost use Rattle.sheet.specs.Lines.{digits_value, number_value, text_value};
 ghost use Rattle.sheet.specs.Places.{Small};
 
-// One digit or more.
-fn digits(bytes: &[u8]) -> Option<u64>
-    requires { length bytes.now ≤ 11 }
-    ensures value { result ≡ digits_value bytes.now }
-    ensures small { Small result }
-{
-    if bytes.is_empty() {
-        return None;
-    }
-    let mut n = 0;
-    let mut rest = bytes;
-    while let [d @ b'0'..=b'9', more @ ..] = rest {
-        n = n * 10 + (*d - b'0') as u64;
-        rest = more;
-    }
-    match rest {
-        [] => Some(n),
-        _ => None,
-    }
+// How many columns a field has.
+pub(crate) const COLUMNS: usize = 11;
+
+// What is left of a field, so few bytes that their digits fit.
+#[derive(Clone, Copy)]
+struct Columns<'a> {
+    bytes: &'a [u8],
+    ghost short: { length bytes.now ≤ 11 },
 }
 
-// Digits, after a minus sign or none.
-fn signed(bytes: &[u8]) -> Option<i64>
-    requires { length bytes.now ≤ 11 }
-    ensures { result ≡ number_value bytes.now }
-{
-    match bytes {
-        [b'-', rest @ ..] => {
-            let n = digits(rest)?;
-            Some(-(n as i64))
+impl Columns<'_> {
+    // One digit or more.
+    #[tactic(auto, using(crate::proofs::Texts::digit_steps))]
+    fn digits(self) -> Option<u64>
+        ensures value { result ≡ digits_value self.entry.bytes.now }
+        ensures small { Small result }
+    {
+        if self.bytes.is_empty() {
+            return None;
         }
-        rest => {
-            let n = digits(rest)?;
-            Some(n as i64)
+        let mut n = 0;
+        let mut rest = self.bytes;
+        while let [d @ b'0'..=b'9', more @ ..] = rest {
+            n = n * 10 + u64::from(*d - b'0');
+            rest = more;
+        }
+        match rest {
+            [] => Some(n),
+            _ => None,
+        }
+    }
+
+    // Digits, after a minus sign or none.
+    fn signed(self) -> Option<i64>
+        ensures { result ≡ number_value self.entry.bytes.now }
+    {
+        match self.bytes {
+            [b'-', rest @ ..] => Columns { bytes: rest }.digits().map(|n| -(n as i64)),
+            _ => self.digits().map(|n| n as i64),
         }
     }
 }
 
 // A number after blanks.
-pub(crate) fn read_field(bytes: &[u8]) -> Option<i64>
-    requires { length bytes.now ≤ 11 }
-    ensures { result ≡ text_value bytes.now }
+pub(crate) fn read_field(field: &[u8; COLUMNS]) -> Option<i64>
+    ensures { result ≡ text_value field.now }
 {
-    let mut rest = bytes;
+    let mut rest: &[u8] = field;
     while let [b' ', more @ ..] = rest {
         rest = more;
     }
-    signed(rest)
+    Columns { bytes: rest }.signed()
 }

@@ -1,31 +1,70 @@
-ghost use Rattle.std.specs.Prelude.{◌≡◌, ◌≤◌, true, List, ◌++◌, map, ℤ, is_ok, IfOk, Ok, Err, MatchResult, OnOk};
+ghost use Rattle.std.specs.Prelude.{◌≡◌, ◌+◌, ◌≤◌, true, [], List, ◌++◌, length, map, ℤ, is_ok, Ok, Err, MatchResult, OnOk};
+ghost use Rattle.std.specs.Iterator.{at_most};
+ghost use Rattle.field.specs.declared.refusal.Refusal.TheVariants.{Line};
 ghost use Rattle.ring.specs.Rings.{integer};
 ghost use Rattle.sheet.specs.Places.{rows_at};
 
-use crate::line::read_line;
+use crate::error::SheetError;
+use crate::row::Row;
+use crate::sizes::Sizes;
 use field::Field;
 use field::refusal::Refusal;
-use field::sizes::MAX_WIDTH;
 use std::alloc::{AllocError, Global};
 
-// Whether the lines of the constants, of which the first has the number 3, and no other follow.
-pub(crate) fn check_rounds(bytes: &[u8], width: usize, count: usize) -> Result<(), Refusal>
-    requires wide { width ≤ 24 }
-    requires few { count ≤ 160 }
-    ensures { MatchResult result (λ _. is_ok (rows_at width count 3 bytes.now) ≡ true) (λ q. rows_at width count 3 bytes.now ≡ Err q) }
-{
-    let mut numbers = [0; MAX_WIDTH];
-    let row = &mut numbers[0..width];
-    let mut rest = bytes;
-    for i in 0..count {
-        let Some(more) = read_line(rest, row) else {
-            return Err(Refusal::Line(3 + i));
-        };
-        rest = more;
+// The lines of the constants, `count` of them with `width` numbers each.
+#[derive(Clone, Copy)]
+pub(crate) struct Rounds<'a> {
+    bytes: &'a [u8],
+    width: usize,
+    count: usize,
+    ghost wide: { width ≤ 24 },
+    ghost few: { count ≤ 160 },
+}
+
+impl<'a> Rounds<'a> {
+    ghost use Rattle.sheet.specs.Rows.{rounds_say, rows_say, Stopped};
+
+    pub(crate) fn new(bytes: &'a [u8], sizes: Sizes) -> Rounds<'a>
+        ensures { rounds_say result ≡ rows_at sizes.width (sizes.rounds_f + sizes.rounds_p) 3 bytes.entry.now }
+    {
+        Rounds {
+            bytes,
+            width: sizes.width,
+            count: sizes.rounds_f + sizes.rounds_p,
+        }
     }
-    match rest {
-        [] => Ok(()),
-        _ => Err(Refusal::Line(3 + count)),
+
+    // The first of the lines has the number 3.
+    fn rows(self) -> Rows<'a>
+        ensures { rows_say result ≡ rounds_say self.entry }
+    {
+        Rows {
+            bytes: self.bytes,
+            width: self.width,
+            left: self.count,
+            line: 3,
+        }
+    }
+
+    // Whether these lines and no other follow.
+    pub(crate) fn check(self) -> Result<(), Refusal>
+        ensures { MatchResult result (λ _. is_ok (rounds_say self.entry) ≡ true) (λ q. rounds_say self.entry ≡ Err q) }
+    {
+        for row in self.rows() {
+            row?;
+        }
+        Ok(())
+    }
+
+    // The constants that the lines say.
+    pub(crate) fn read<F: Field>(self, heap: Global) -> Result<Vec<F>, SheetError>
+        ensures { MatchResult result (λ v. (zs : List ℤ) × (rounds_say self.entry ≡ Ok zs) × (map F.Field.value v.items ≡ map (integer F.Field.ring) zs)) (Stopped (rounds_say self.entry)) }
+    {
+        let mut constants = Vec::new(heap);
+        for row in self.rows() {
+            append(&mut constants, row?.as_slice())?;
+        }
+        Ok(constants)
     }
 }
 
@@ -33,33 +72,56 @@ pub(crate) fn check_rounds(bytes: &[u8], width: usize, count: usize) -> Result<(
 fn append<F: Field>(constants: &mut Vec<F>, numbers: &[i64]) -> Result<(), AllocError>
     ensures { OnOk result (map F.Field.value constants.new.items ≡ map F.Field.value constants.old.items ++ map (integer F.Field.ring) numbers.now) }
 {
-    for n in numbers {
-        constants.push(F::from_i64(*n))?;
-    }
-    Ok(())
+    constants.extend(numbers.iter().map(|n| F::from_i64(*n)))
 }
 
-// The constants of lines whose form has been checked.
-pub(crate) fn read_rounds<F: Field>(
-    heap: Global,
-    bytes: &[u8],
+// Row after row of the lines that are left, of which the next has the number `line`.
+#[derive(Drop)]
+struct Rows<'a> {
+    bytes: &'a [u8],
     width: usize,
-    count: usize,
-) -> Result<Vec<F>, AllocError>
-    requires wide { width ≤ 24 }
-    requires checked { is_ok (rows_at width count 3 bytes.now) ≡ true }
-    ensures { IfOk result (λ v. (zs : List ℤ) × (rows_at width count 3 bytes.now ≡ Ok zs) × (map F.Field.value v.items ≡ map (integer F.Field.ring) zs)) }
-{
-    let mut constants = Vec::new(heap);
-    let mut numbers = [0; MAX_WIDTH];
-    let row = &mut numbers[0..width];
-    let mut rest = bytes;
-    for _ in 0..count {
-        let Some(more) = read_line(rest, row) else {
-            unreachable()
-        };
-        append(&mut constants, row)?;
-        rest = more;
+    left: usize,
+    line: usize,
+    ghost wide: { width ≤ 24 },
+    ghost few: { left + line ≤ 163 },
+}
+
+impl Rows<'_> {
+    // The refusal of the next line, after which no row comes.
+    fn refuse(&mut self) -> Refusal
+        ensures refusal { result ≡ Line self.old.line }
+        ensures bytes { self.new.bytes.now ≡ [] }
+        ensures left { self.new.left ≡ 0 }
+    {
+        self.bytes = &[];
+        self.left = 0;
+        Refusal::Line(self.line)
     }
-    Ok(constants)
+}
+
+impl Iterator for Rows<'_> {
+    ghost use Rattle.sheet.specs.Rows.{rows_say, NextRow};
+
+    type Item = Result<Row, Refusal>;
+
+    ghost next_gives = { λ s r t. NextRow (rows_say s) r (rows_say t) };
+
+    ghost remaining = { λ s. at_most (s.left + length s.bytes.now) };
+
+    fn next(&mut self) -> Option<Result<Row, Refusal>> {
+        if self.left == 0 {
+            // what follows the last row is a line too many
+            return match self.bytes {
+                [] => None,
+                _ => Some(Err(self.refuse())),
+            };
+        }
+        let Some((row, rest)) = Row::read(self.bytes, self.width) else {
+            return Some(Err(self.refuse()));
+        };
+        self.bytes = rest;
+        self.left -= 1;
+        self.line += 1;
+        Some(Ok(row))
+    }
 }
