@@ -1,8 +1,8 @@
 use field::Field;
 use field::refusal::Refusal;
 use field::residue::F17;
-use ring::Ring;
 use poseidon1::utils::circulant_to_dense;
+use ring::Ring;
 use std::process::Abort;
 
 // A matrix that is not its own transpose.

@@ -1,6 +1,5 @@
 -- The number and the place of each refusal, and how it is printed.
-use Rattle.std.specs.Prelude.{ℕ, List, ◌++◌, decimal}
-use lib.Chars.{codes}
+use Rattle.std.specs.Prelude.{ℕ, List, ◌++◌, codes, decimal}
 use Rattle.field.specs.declared.refusal.Refusal.{Refusal}
 use Rattle.field.specs.declared.refusal.Refusal.TheVariants.{Width, FullRounds, PartialRounds, MatrixLength, ConstantsLength, TablesLength, WorkLength, SpareLength, SingularMatrix, SingularBlock, StateLength, EngineWidth, Line}
 

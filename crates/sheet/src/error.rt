@@ -19,11 +19,7 @@ impl fmt::Display for SheetError {
 
     fn fmt<W: fmt::Write>(&self, f: &mut fmt::Formatter<W>) -> fmt::Result {
         match self {
-            SheetError::Refused(why) => {
-                let number = why.number();
-                let place = why.place();
-                write!(f, "refusal {number} at {place}")
-            }
+            SheetError::Refused(why) => write!(f, "{why}"),
             SheetError::Memory(_) => write!(f, "memory is wanting"),
         }
     }

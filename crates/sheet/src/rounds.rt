@@ -58,7 +58,7 @@ impl<'a> Rounds<'a> {
 
     // The constants that the lines say.
     pub(crate) fn read<F: Field>(self, heap: Global) -> Result<Vec<F>, SheetError>
-        ensures { MatchResult result (λ v. (zs : List ℤ) × (rounds_say self.entry ≡ Ok zs) × (map F.Field.value v.items ≡ map (integer F.Field.ring) zs)) (Stopped (rounds_say self.entry)) }
+        ensures { MatchResult result (λ v. (zs : List ℤ) × (rounds_say self.entry ≡ Ok zs) × (map F.Ring.value v.items ≡ map (integer F.Ring.ring) zs)) (Stopped (rounds_say self.entry)) }
     {
         let mut constants = Vec::new(heap);
         for row in self.rows() {
@@ -70,7 +70,7 @@ impl<'a> Rounds<'a> {
 
 // Puts the field's elements for `numbers` behind `constants`.
 fn append<F: Field>(constants: &mut Vec<F>, numbers: &[i64]) -> Result<(), AllocError>
-    ensures { OnOk result (map F.Field.value constants.new.items ≡ map F.Field.value constants.old.items ++ map (integer F.Field.ring) numbers.now) }
+    ensures { OnOk result (map F.Ring.value constants.new.items ≡ map F.Ring.value constants.old.items ++ map (integer F.Ring.ring) numbers.now) }
 {
     constants.extend(numbers.iter().map(|n| F::from_i64(*n)))
 }

@@ -7,7 +7,6 @@ use field::Field;
 use field::residue::{F17, Modulus, Residue};
 use folding::columns::rows_text;
 use folding::{Folded, fold};
-use sheet::error::SheetError;
 use std::io;
 use worked::worked_values;
 
@@ -39,8 +38,7 @@ fn main(rt: HostRuntime) -> io::Result<()> {
 fn tell(rt: &(impl Print + AllocGlobal), bytes: &[u8]) -> io::Result<()> {
     match fold::<F17>(rt.alloc(), bytes) {
         Ok(folded) => tell_folded(rt, &folded),
-        Err(SheetError::Refused(refusal)) => println!(rt; "   answered: {refusal}"),
-        Err(SheetError::Memory) => rt.println("   answered: memory is wanting"),
+        Err(error) => println!(rt; "   answered: {error}"),
     }
 }
 

@@ -11,12 +11,12 @@ use Rattle.sheet.proofs.read_sheet.Goals as goal
 
 pub returns-in_err-column-clause-reads : goal.returns-in_err-column-clause-reads
 returns-in_err-column-clause-reads g c =
-    let h = stopped g.F.Field.ring g.F.Field.value c.args.bytes.now c.in_ok-sizes.field-0 (Memory c.in_err-column.field-0.0) c.in_ok-sizes.ensures tt in
+    let h = stopped g.F.Ring.ring g.F.Ring.value c.args.bytes.now c.in_ok-sizes.field-0 (Memory c.in_err-column.field-0.0) c.in_ok-sizes.ensures tt in
     search rules
 
 pub returns-in_err-constants-clause-reads : goal.returns-in_err-constants-clause-reads
 returns-in_err-constants-clause-reads g c =
-    let h = stopped g.F.Field.ring g.F.Field.value c.args.bytes.now c.in_ok-sizes.field-0 c.in_err-constants.field-0.0 c.in_ok-sizes.ensures c.in_err-constants.ensures in
+    let h = stopped g.F.Ring.ring g.F.Ring.value c.args.bytes.now c.in_ok-sizes.field-0 c.in_err-constants.field-0.0 c.in_ok-sizes.ensures c.in_err-constants.ensures in
     search rules
 
 pub returns-clause-shape : goal.returns-clause-shape
@@ -31,5 +31,5 @@ returns-clause-shape g c =
     record {
       sizes = s.admitted;
       square = c.in_ok-column.ensures.len ∙ ap length c.as_slice.ensures ∙ w.square;
-      rounds = c.in_ok-constants.constants.ok.0 ∙ sym (length-map _ g.F.Field.value) ∙ ap length k.2 ∙ length-map k.0 (integer g.F.Field.ring) ∙ w.rounds;
+      rounds = c.in_ok-constants.constants.ok.0 ∙ sym (length-map _ g.F.Ring.value) ∙ ap length k.2 ∙ length-map k.0 (integer g.F.Ring.ring) ∙ w.rounds;
     }

@@ -13,7 +13,7 @@ extended {S} {steps = steps} v all r ran chain use_ = fact_from_extend v r ran (
 
 pub returns : goal.returns
 returns g c =
-    let f = g.F.Field in
+    let f = g.F.Ring in
     let was = vec_items c.args.constants.now in
     let zs = c.args.numbers.now in
     extended f.value (map (integer f.ring) zs) c.extend.result c.extend.ensures.ran

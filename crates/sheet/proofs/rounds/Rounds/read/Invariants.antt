@@ -9,4 +9,4 @@ abbrev pub invariant-loop-row : goal.invariant-loop-row
 invariant-loop-row g l =
     (goal.iterator-loop-row g).can_next l.row-iterator
     × (goal.iterator-loop-row g).is_finite l.row-iterator
-    × ((zs : List ℤ) × (ahead zs (rows_say l.row-iterator) ≡ rounds_say l.self) × (map g.F.Field.value (vec_items l.constants) ≡ map (integer g.F.Field.ring) zs))
+    × ((zs : List ℤ) × (ahead zs (rows_say l.row-iterator) ≡ rounds_say l.self) × (map g.F.Ring.value (vec_items l.constants) ≡ map (integer g.F.Ring.ring) zs))
