@@ -8,17 +8,17 @@ use field::Field;
 use ring::Ring;
 use std::ops::{Add, Mul};
 
-// A ring that holds an image of the field F. Adding or multiplying by an element of F means doing so with its image.
-// States are lists of elements of an algebra; constants, matrices and tables are of F.
+/// A ring that holds an image of the field F. Adding or multiplying by an element of F means doing so with its image.
+/// States are lists of elements of an algebra; constants, matrices and tables are of F.
 pub trait Algebra<F: Field>: Ring + From<F> + Add<F, Output = Self> + Mul<F, Output = Self> {
     // the element as which an element of the field enters
     ghost image: { F → Self };
 
-    // One product of an element with a field element more.
+    /// One product of an element with a field element more.
     fn mixed_sum_more(sum: <Self as Ring>::Sum, element: Self, factor: F) -> <Self as Ring>::Sum
         ensures { Self.Ring.total result ≡ Self.Ring.ring.add (Self.Ring.total sum) (Self.Ring.ring.mul (Self.Ring.value element) (Self.Ring.value (image factor))) };
 
-    // The sum of the products of elements with field elements over the positions that both lists have.
+    /// The sum of the products of elements with field elements over the positions that both lists have.
     fn mixed_dot_product(elements: &[Self], factors: &[F]) -> Self
         ensures { Self.Ring.value result ≡ dot Self.Ring.ring (map Self.Ring.value elements.now) (map (λ x. Self.Ring.value (image x)) factors.now) }
     {

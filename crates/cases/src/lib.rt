@@ -1,4 +1,4 @@
-// Tests of the fields, the sheet reader and the expansion, apart from their crates so that these are proved once.
+//! Tests of the fields, the sheet reader and the expansion, apart from their crates so that these are proved once.
 #![tactic(auto)]
 
 #[cfg(test)]

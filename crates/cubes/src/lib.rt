@@ -8,16 +8,16 @@ use field::residue::F17;
 use monomial::InjectiveMonomial;
 use pairs::Pair;
 
-// Worked cubes on pairs over the field of 17, as the code answers them.
-#[derive(Clone, Copy)]
+/// Worked cubes on pairs over the field of 17, as the code answers them.
+#[derive(Clone, Copy, PartialEq, Eq, Debug)]
 pub struct Cubes {
-    // the cube of 1
+    /// The cube of 1
     pub of_one: [u32; 2],
-    // the cube of 8 + 2u
+    /// The cube of 8 + 2u
     pub of_other: [u32; 2],
 }
 
-// The worked cubes, of the definitions and of the code.
+/// The worked cubes, of the definitions and of the code.
 pub fn worked_cubes() -> Cubes
     ensures defined { WorkedCubes }
     ensures of_one { result.of_one ≡ 1 ∷ 0 ∷ [] }

@@ -10,9 +10,9 @@ pub mod refusal;
 pub mod residue;
 pub mod sizes;
 
-// A ring in which one differs from zero. Elements are equal where they mean one value.
+/// A ring in which one differs from zero. Elements are equal where they mean one value.
 pub trait Field: Ring + Eq {
-    // The n-fold sum of one, negated for a negative n.
+    /// The n-fold sum of one, negated for a negative n.
     fn from_i64(n: i64) -> Self
         ensures { Self.Ring.value result ≡ integer Self.Ring.ring n };
 
@@ -21,9 +21,9 @@ pub trait Field: Ring + Eq {
     ghost eq_law: { (x y : Self) → T (Self.PartialEq.eq x y) ↔ (Self.Ring.value x ≡ Self.Ring.value y) };
 }
 
-// A field in which every element but zero has an inverse.
+/// A field in which every element but zero has an inverse.
 pub trait InverseField: Field {
-    // The element whose product with this one is one; there is one exactly where this one is not zero.
+    /// The element whose product with this one is one; there is one exactly where this one is not zero.
     fn inverse(self) -> Option<Self>
         ensures { Inverts Self.Ring.ring Self.Ring.value (Self.Ring.value self) result };
 }

@@ -4,34 +4,34 @@ ghost use Rattle.field.specs.Refusals.{number_of, place_of, message_of};
 use std::error::Error;
 use std::fmt;
 
-// Why a call is refused, for every call of the library.
+/// Why a call is refused, for every call of the library.
 #[derive(Clone, Copy, PartialEq, Eq, Debug)]
 pub enum Refusal {
-    // the width N is not from 2 to 24
+    /// The width N is not from 2 to 24
     Width,
-    // the full rounds are not from 6 to 32
+    /// The full rounds are not from 6 to 32
     FullRounds,
-    // the partial rounds are not from 1 to 128
+    /// The partial rounds are not from 1 to 128
     PartialRounds,
-    // the column is not N long, or the dense matrix not N×N
+    /// The column is not N long, or the dense matrix not N×N
     MatrixLength,
-    // the constants are not N for each round
+    /// The constants are not N for each round
     ConstantsLength,
-    // the table buffer has another length
+    /// The table buffer has another length
     TablesLength,
-    // the work buffer is not 4×N×N elements
+    /// The work buffer is not 4×N×N elements
     WorkLength,
-    // the spare buffer is not 4×N elements
+    /// The spare buffer is not 4×N elements
     SpareLength,
-    // the least column of M that is a sum of multiples of earlier ones
+    /// The least column of M that is a sum of multiples of earlier ones
     SingularMatrix(usize),
-    // the least row of M without row and column 0 that is a sum of multiples of earlier ones
+    /// The least row of M without row and column 0 that is a sum of multiples of earlier ones
     SingularBlock(usize),
-    // the state is not N elements
+    /// The state is not N elements
     StateLength,
-    // the engine's width is not N
+    /// The engine's width is not N
     EngineWidth,
-    // the line of a sheet, from 1, that has the wrong form, is missing or is extra
+    /// The line of a sheet, from 1, that has the wrong form, is missing or is extra
     Line(usize),
 }
 

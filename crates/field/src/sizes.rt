@@ -15,7 +15,7 @@ pub const MIN_ROUNDS_P: usize = 1;
 
 pub const MAX_ROUNDS_P: usize = 128;
 
-// Whether a state may have this width.
+/// Whether a state may have this width.
 pub fn check_width(width: usize) -> Result<(), Refusal>
     ensures { MatchResult result (λ _. width_refused width ≡ None) (λ q. width_refused width ≡ Some q) }
 {
@@ -25,7 +25,7 @@ pub fn check_width(width: usize) -> Result<(), Refusal>
     Ok(())
 }
 
-// Whether a permutation may have these sizes; else the first that it may not have.
+/// Whether a permutation may have these sizes; else the first that it may not have.
 pub fn check_sizes(width: usize, rounds_f: usize, rounds_p: usize) -> Result<(), Refusal>
     ensures { MatchResult result (λ _. sizes_refused width rounds_f rounds_p ≡ None) (λ q. sizes_refused width rounds_f rounds_p ≡ Some q) }
 {

@@ -6,8 +6,8 @@ use field::refusal::Refusal;
 use field::residue::Residue;
 use std::alloc::{AllocError, Global};
 
-// The text of residues in rows of `width`, each right-justified in 11 columns.
-// Only a full row ends with a line feed, so none does at width 0.
+/// The text of residues in rows of `width`, each right-justified in 11 columns.
+/// Only a full row ends with a line feed, so none does at width 0.
 #[tactic(auto, using(crate::proofs::Pads::columns_read))]
 pub fn rows_text<const P: u32>(
     heap: Global,
@@ -27,7 +27,7 @@ pub fn rows_text<const P: u32>(
     Ok(text)
 }
 
-// The text of a refusal: one line, number and place.
+/// The text of a refusal: one line, number and place.
 #[tactic(auto, using(crate::proofs::Pads::written))]
 pub fn refusal_text(heap: Global, refusal: Refusal) -> Result<String, AllocError>
     ensures { IfOk result (λ text. string_bytes text ≡ pair_line (number_of refusal) (place_of refusal)) }

@@ -11,15 +11,15 @@ use std::alloc::Global;
 pub mod columns;
 pub mod output;
 
-// A sheet, and what is folded from it.
+/// A sheet, and what is folded from it.
 #[derive(Drop)]
 pub struct Folded<F> {
     pub sheet: Sheet<F>,
-    // the matrix M, row by row
+    /// The matrix M, row by row
     pub matrix: Vec<F>,
 }
 
-// Folds the sheet that `bytes` are; a refusal of any step comes out as it is.
+/// Folds the sheet that `bytes` are; a refusal of any step comes out as it is.
 pub fn fold<F: Field + Clone>(heap: Global, bytes: &[u8]) -> Result<Folded<F>, SheetError>
     ensures { Folds F.Ring.ring F.Ring.value bytes.now result }
 {

@@ -8,7 +8,7 @@ use field::residue::F17;
 use sheet::error::SheetError;
 use std::alloc::{AllocError, Global};
 
-// What the folding program prints for `bytes`, in the field of 17.
+/// What the folding program prints for `bytes`, in the field of 17.
 pub fn fold_text(heap: Global, bytes: &[u8]) -> Result<String, AllocError>
     ensures { IfOk result (λ text. string_bytes text ≡ output_of (sheet_of bytes.now)) }
 {

@@ -10,8 +10,8 @@ use monomial::{InjectiveMonomial, PermutationMonomial};
 use ring::Ring;
 use std::ops::{Add, Mul, Neg, Sub};
 
-// Four elements abreast.
-#[derive(Clone, Copy)]
+/// Four elements abreast.
+#[derive(Clone, Copy, PartialEq, Eq, Debug)]
 pub struct Lanes<T> {
     pub a: T,
     pub b: T,

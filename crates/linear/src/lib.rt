@@ -1,2 +1,2 @@
-// Vectors and matrices over a commutative ring: definitions in specs/ and lemmas in proofs/ for the crates above; no code.
+//! Vectors and matrices over a commutative ring: definitions in specs/ and lemmas in proofs/ for the crates above; no code.
 #![tactic(auto)]

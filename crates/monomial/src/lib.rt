@@ -10,7 +10,7 @@ use ring::Ring;
 pub mod exponentiation;
 pub mod residues;
 
-// The S-box: a ring with an exponent D from 3 to 255, and the power with this exponent.
+/// The S-box: a ring with an exponent D from 3 to 255, and the power with this exponent.
 pub trait InjectiveMonomial: Ring {
     const D: u8;
 
@@ -18,7 +18,7 @@ pub trait InjectiveMonomial: Ring {
 
     ghost least: { 3 ≤ D };
 
-    // The D-fold product.
+    /// The D-fold product.
     fn injective_exp_n(self) -> Self
         ensures { Self.Ring.value result ≡ power Self.Ring.ring D (Self.Ring.value self) }
     {
@@ -26,7 +26,7 @@ pub trait InjectiveMonomial: Ring {
     }
 }
 
-// A rooted S-box: the root undoes the power and the power undoes the root, at every value.
+/// A rooted S-box: the root undoes the power and the power undoes the root, at every value.
 pub trait PermutationMonomial: InjectiveMonomial {
     fn injective_exp_root_n(self) -> Self
         ensures { RootOf Self.Ring.ring Self.InjectiveMonomial.D (Self.Ring.value self) (Self.Ring.value result) };

@@ -11,8 +11,8 @@ use monomial::InjectiveMonomial;
 use ring::Ring;
 use std::ops::{Add, Mul, Neg, Sub};
 
-// a + b·u, where u·u is three.
-#[derive(Clone, Copy)]
+/// a + b·u, where u·u is three.
+#[derive(Clone, Copy, PartialEq, Eq, Debug)]
 pub struct Pair<T> {
     pub a: T,
     pub b: T,

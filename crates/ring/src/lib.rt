@@ -1,4 +1,4 @@
-// Commutative rings: what code sees of them; definitions in specs/ and lemmas in proofs/ for the crates above.
+//! Commutative rings: what code sees of them; definitions in specs/ and lemmas in proofs/ for the crates above.
 #![tactic(auto)]
 
 ghost use Rattle.std.specs.Prelude.{◌≡◌, map};
@@ -7,8 +7,8 @@ ghost use Rattle.ring.specs.Sums.{dot};
 
 use std::ops::{Add, Mul, Neg, Sub};
 
-// Elements that mean values of a commutative ring.
-// Laws and contracts speak of the values, so several elements may mean one value.
+/// Elements that mean values of a commutative ring.
+/// Laws and contracts speak of the values, so several elements may mean one value.
 pub trait Ring: Copy
     + Add<Self, Output = Self>
     + Sub<Self, Output = Self>
@@ -28,7 +28,7 @@ pub trait Ring: Copy
     fn one() -> Self
         ensures { value result ≡ ring.one };
 
-    // A sum of products that need not be reduced yet.
+    /// A sum of products that need not be reduced yet.
     type Sum: Copy;
 
     ghost total: { Self.Sum → ring.V };
@@ -36,15 +36,15 @@ pub trait Ring: Copy
     fn sum_none() -> Self::Sum
         ensures { total result ≡ ring.nil };
 
-    // One product more.
+    /// One product more.
     fn sum_more(sum: Self::Sum, left: Self, right: Self) -> Self::Sum
         ensures { total result ≡ ring.add (total sum) (ring.mul (value left) (value right)) };
 
-    // The element that the sum comes to.
+    /// The element that the sum comes to.
     fn sum_done(sum: Self::Sum) -> Self
         ensures { value result ≡ total sum };
 
-    // The sum of the products over the positions that both lists have.
+    /// The sum of the products over the positions that both lists have.
     fn dot_product(left: &[Self], right: &[Self]) -> Self
         ensures { value result ≡ dot ring (map value left.now) (map value right.now) }
     {

@@ -7,7 +7,7 @@ use std::alloc::AllocError;
 use std::error::Error;
 use std::fmt;
 
-// Why there is no sheet: the bytes are none, or memory is wanting for one.
+/// Why there is no sheet: the bytes are none, or memory is wanting for one.
 #[derive(Clone, Copy, Debug)]
 pub enum SheetError {
     Refused(Refusal),
@@ -27,6 +27,7 @@ impl fmt::Display for SheetError {
 
 impl Error for SheetError {}
 
+// The conversions are by hand: of a derived one no clause says which error it gives.
 impl From<Refusal> for SheetError {
     ghost from_gives = { λ q r. r ≡ Refused q };
 

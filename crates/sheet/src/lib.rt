@@ -19,19 +19,19 @@ mod rounds;
 mod row;
 mod sizes;
 
-// The parameters of a permutation.
+/// The parameters of a permutation.
 #[derive(Drop)]
 pub struct Sheet<F> {
     pub width: usize,
     pub rounds_f: usize,
     pub rounds_p: usize,
-    // the first column of the circulant matrix
+    /// The first column of the circulant matrix
     pub column: Vec<i64>,
-    // the round constants, one round after another
+    /// The round constants, one round after another
     pub constants: Vec<F>,
 }
 
-// The sheet that `bytes` are, or why they are none.
+/// The sheet that `bytes` are, or why they are none.
 #[tactic(auto, using(crate::proofs::GrammarHolds::grammar_holds))]
 pub fn read_sheet<F: Field>(heap: Global, bytes: &[u8]) -> Result<Sheet<F>, SheetError>
     ensures reads { Reads F.Ring.ring F.Ring.value bytes.now result }

@@ -2,7 +2,7 @@ use std::alloc::{AllocError, AllocFailed, Global};
 use std::fmt;
 use std::str::{FromStr, SplitWhitespace};
 
-// What is asked of a field.
+/// What is asked of a field.
 #[derive(Clone, Copy, PartialEq, Eq, PartialOrd, Ord)]
 pub enum Kind {
     From,
@@ -16,7 +16,7 @@ pub enum Kind {
     Dot,
 }
 
-// All of them, in the order in which they are told.
+/// All of them, in the order in which they are told.
 pub const KINDS: [Kind; 9] = [
     Kind::From,
     Kind::Product,
@@ -64,7 +64,7 @@ impl FromStr for Kind {
     }
 }
 
-// The fields that are asked.
+/// The fields that are asked.
 #[derive(Clone, Copy)]
 pub enum Over {
     F17,
@@ -86,7 +86,7 @@ impl FromStr for Over {
     }
 }
 
-// Why a line is no case.
+/// Why a line is no case.
 #[derive(Clone, Copy, Debug)]
 pub enum CaseError {
     Form,
@@ -99,7 +99,7 @@ impl<T: Drop> From<AllocFailed<T>> for CaseError {
     }
 }
 
-// A line such as `product 17 3 7 = 4`; an inverse that is absent has nothing behind the sign.
+/// A line such as `product 17 3 7 = 4`; an inverse that is absent has nothing behind the sign.
 #[derive(Drop)]
 pub struct Case {
     pub kind: Kind,
