@@ -22,12 +22,10 @@ pub trait Algebra<F: Field>: Ring + From<F> + Add<F, Output = Self> + Mul<F, Out
     fn mixed_dot_product(elements: &[Self], factors: &[F]) -> Self
         ensures { Self.Ring.value result ≡ dot Self.Ring.ring (map Self.Ring.value elements.now) (map (λ x. Self.Ring.value (image x)) factors.now) }
     {
-        let sum = elements
-            .iter()
-            .zip(factors)
-            .fold(Self::sum_none(), |sum, (x, y)| {
-                Self::mixed_sum_more(sum, *x, *y)
-            });
+        let pairs = elements.iter().zip(factors);
+        let sum = pairs.fold(Self::sum_none(), |sum, (x, y)| {
+            Self::mixed_sum_more(sum, *x, *y)
+        });
         Self::sum_done(sum)
     }
 

@@ -48,10 +48,8 @@ pub trait Ring: Copy
     fn dot_product(left: &[Self], right: &[Self]) -> Self
         ensures { value result ≡ dot ring (map value left.now) (map value right.now) }
     {
-        let sum = left.iter().zip(right).fold(
-            Self::sum_none(),
-            |sum, (x, y)| Self::sum_more(sum, *x, *y),
-        );
+        let pairs = left.iter().zip(right);
+        let sum = pairs.fold(Self::sum_none(), |sum, (x, y)| Self::sum_more(sum, *x, *y));
         Self::sum_done(sum)
     }
 

@@ -6,6 +6,6 @@ use Rattle.algebra.proofs.Algebra.mixed_dot_product.Goals as goal
 pub returns : goal.returns
 returns g c =
     let v = g.Self.Ring.value in
-    let pairs = YieldsList-from_zip {s = c.zip.result} (YieldsList-from_slice c.args.elements.now (cc)) (YieldsList-from_slice c.args.factors.now (cc)) in
+    let pairs = YieldsList-from_zip {s = c.zip-pairs.result} (YieldsList-from_slice c.args.elements.now (cc)) (YieldsList-from_slice c.args.factors.now (cc)) in
     c.sum_done.ensures
     ∙ dot_from_fold g.Self.Ring.ring v (λ x. v (g.Self.Algebra.image x)) c.args.elements.now c.args.factors.now _ _ g.Self.Ring.total _ _ pairs c.fold-sum.ensures.ran c.sum_none.ensures (λ a b x f k. search rules)
