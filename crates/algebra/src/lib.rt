@@ -15,12 +15,12 @@ pub trait Algebra<F: Field>: Ring + From<F> + Add<F, Output = Self> + Mul<F, Out
     ghost image: { F → Self };
 
     /// One product of an element with a field element more.
-    fn mixed_sum_more(sum: <Self as Ring>::Sum, element: Self, factor: F) -> <Self as Ring>::Sum
-        ensures { Self.Ring.total result ≡ Self.Ring.ring.add (Self.Ring.total sum) (Self.Ring.ring.mul (Self.Ring.value element) (Self.Ring.value (image factor))) };
+    fn mixed_sum_more(sum: Self::Sum, element: Self, factor: F) -> Self::Sum
+        ensures { Self.total result ≡ Self.ring.add (Self.total sum) (Self.ring.mul (Self.value element) (Self.value (image factor))) };
 
     /// The sum of the products of elements with field elements over the positions that both lists have.
     fn mixed_dot_product(elements: &[Self], factors: &[F]) -> Self
-        ensures { Self.Ring.value result ≡ dot Self.Ring.ring (map Self.Ring.value elements.now) (map (λ x. Self.Ring.value (image x)) factors.now) }
+        ensures { Self.value result ≡ dot Self.ring (map Self.value elements.now) (map (λ x. Self.value (image x)) factors.now) }
     {
         let pairs = elements.iter().zip(factors);
         let sum = pairs.fold(Self::sum_none(), |sum, (x, y)| {
@@ -30,36 +30,36 @@ pub trait Algebra<F: Field>: Ring + From<F> + Add<F, Output = Self> + Mul<F, Out
     }
 
     // the image depends on the value alone, and keeps zero, one, sums and products
-    ghost base: { (f : F.Ring.ring.V → Self.Ring.ring.V) × Hom F.Ring.ring Self.Ring.ring f × ((x : F) → Self.Ring.value (image x) ≡ f (F.Ring.value x)) };
+    ghost base: { (f : F.ring.V → Self.ring.V) × Hom F.ring Self.ring f × ((x : F) → Self.value (image x) ≡ f (F.value x)) };
 
-    ghost from_law: { (x : F) (y : Self) → ⟦<Self as From<F>>⟧.from_gives x y → Self.Ring.value y ≡ Self.Ring.value (image x) };
+    ghost from_law: { (x : F) (y : Self) → ⟦<Self as From<F>>⟧.from_gives x y → Self.value y ≡ Self.value (image x) };
 
     ghost can_add_base_law: { (x : Self) (y : F) → ⟦<Self as Add<F>>⟧.can_add x y };
 
     ghost can_mul_base_law: { (x : Self) (y : F) → ⟦<Self as Mul<F>>⟧.can_mul x y };
 
-    ghost add_base_law: { (x : Self) (y : F) (r : Self) → ⟦<Self as Add<F>>⟧.add_gives x y r → Self.Ring.value r ≡ Self.Ring.ring.add (Self.Ring.value x) (Self.Ring.value (image y)) };
+    ghost add_base_law: { (x : Self) (y : F) (r : Self) → ⟦<Self as Add<F>>⟧.add_gives x y r → Self.value r ≡ Self.ring.add (Self.value x) (Self.value (image y)) };
 
-    ghost mul_base_law: { (x : Self) (y : F) (r : Self) → ⟦<Self as Mul<F>>⟧.mul_gives x y r → Self.Ring.value r ≡ Self.Ring.ring.mul (Self.Ring.value x) (Self.Ring.value (image y)) };
+    ghost mul_base_law: { (x : Self) (y : F) (r : Self) → ⟦<Self as Mul<F>>⟧.mul_gives x y r → Self.value r ≡ Self.ring.mul (Self.value x) (Self.value (image y)) };
 }
 
 // The field itself, as an algebra over itself.
 impl<F: Field> Algebra<F> for F {
     ghost image = { λ x. x };
 
-    fn mixed_sum_more(sum: <F as Ring>::Sum, element: F, factor: F) -> <F as Ring>::Sum {
+    fn mixed_sum_more(sum: F::Sum, element: F, factor: F) -> F::Sum {
         F::sum_more(sum, element, factor)
     }
 
     ghost base = { (λ v. v, record { at_nil = refl; at_one = refl; at_add = λ x y. refl; at_mul = λ x y. refl }, λ x. refl) };
 
-    ghost from_law = { λ x y e i. F.Ring.value (e i) };
+    ghost from_law = { λ x y e i. F.value (e i) };
 
-    ghost can_add_base_law = { F.Ring.can_add_law };
+    ghost can_add_base_law = { F.can_add_law };
 
-    ghost can_mul_base_law = { F.Ring.can_mul_law };
+    ghost can_mul_base_law = { F.can_mul_law };
 
-    ghost add_base_law = { F.Ring.add_law };
+    ghost add_base_law = { F.add_law };
 
-    ghost mul_base_law = { F.Ring.mul_law };
+    ghost mul_base_law = { F.mul_law };
 }

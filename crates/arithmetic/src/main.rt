@@ -21,7 +21,7 @@ fn main(rt: HostRuntime) -> io::Result<()> {
 
 // The element over itself: one, or nothing for zero.
 fn over_itself<F: InverseField>(x: F) -> Option<F>
-    ensures { MatchOption result (F.Ring.value x ≡ F.Ring.ring.nil) (λ y. F.Ring.value y ≡ F.Ring.ring.one) }
+    ensures { MatchOption result (F.value x ≡ F.ring.nil) (λ y. F.value y ≡ F.ring.one) }
 {
     let found = x.inverse()?;
     Some(x * found)
@@ -44,7 +44,7 @@ fn tell_inverse(rt: &HostRuntime) -> io::Result<()> {
 
 // The root of the power: the element again, in every ring with a root.
 fn there_and_back<F: PermutationMonomial>(x: F) -> F
-    ensures { F.Ring.value result ≡ F.Ring.value x }
+    ensures { F.value result ≡ F.value x }
 {
     x.injective_exp_n().injective_exp_root_n()
 }
@@ -61,10 +61,10 @@ fn tell_root(rt: &HostRuntime) -> io::Result<()> {
 
 // Four powers abreast: in each lane what the power makes of that lane alone.
 fn powers_abreast<F: InjectiveMonomial>(x: Lanes<F>) -> Lanes<F>
-    ensures a { F.Ring.value result.a ≡ power F.Ring.ring F.InjectiveMonomial.D (F.Ring.value x.a) }
-    ensures b { F.Ring.value result.b ≡ power F.Ring.ring F.InjectiveMonomial.D (F.Ring.value x.b) }
-    ensures c { F.Ring.value result.c ≡ power F.Ring.ring F.InjectiveMonomial.D (F.Ring.value x.c) }
-    ensures d { F.Ring.value result.d ≡ power F.Ring.ring F.InjectiveMonomial.D (F.Ring.value x.d) }
+    ensures a { F.value result.a ≡ power F.ring F.D (F.value x.a) }
+    ensures b { F.value result.b ≡ power F.ring F.D (F.value x.b) }
+    ensures c { F.value result.c ≡ power F.ring F.D (F.value x.c) }
+    ensures d { F.value result.d ≡ power F.ring F.D (F.value x.d) }
 {
     x.injective_exp_n()
 }

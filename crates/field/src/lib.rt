@@ -14,16 +14,16 @@ pub mod sizes;
 pub trait Field: Ring + Eq {
     /// The n-fold sum of one, negated for a negative n.
     fn from_i64(n: i64) -> Self
-        ensures { Self.Ring.value result ≡ integer Self.Ring.ring n };
+        ensures { Self.value result ≡ integer Self.ring n };
 
-    ghost apart: { Self.Ring.ring.one ≢ Self.Ring.ring.nil };
+    ghost apart: { Self.ring.one ≢ Self.ring.nil };
 
-    ghost eq_law: { (x y : Self) → T (Self.PartialEq.eq x y) ↔ (Self.Ring.value x ≡ Self.Ring.value y) };
+    ghost eq_law: { (x y : Self) → T (Self.PartialEq.eq x y) ↔ (Self.value x ≡ Self.value y) };
 }
 
 /// A field in which every element but zero has an inverse.
 pub trait InverseField: Field {
     /// The element whose product with this one is one; there is one exactly where this one is not zero.
     fn inverse(self) -> Option<Self>
-        ensures { Inverts Self.Ring.ring Self.Ring.value (Self.Ring.value self) result };
+        ensures { Inverts Self.ring Self.value (Self.value self) result };
 }

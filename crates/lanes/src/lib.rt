@@ -71,7 +71,7 @@ impl<T: Copy> Lanes<T> {
 impl<F: Ring> Add for Lanes<F> {
     type Output = Lanes<F>;
 
-    ghost add_gives = { λ x y r. lanes F.Ring.value r ≡ (fours F.Ring.ring).add (lanes F.Ring.value x) (lanes F.Ring.value y) };
+    ghost add_gives = { λ x y r. lanes F.value r ≡ (fours F.ring).add (lanes F.value x) (lanes F.value y) };
 
     fn add(self, other: Lanes<F>) -> Lanes<F> {
         self.zip(other, |x, y| x + y)
@@ -81,7 +81,7 @@ impl<F: Ring> Add for Lanes<F> {
 impl<F: Ring> Sub for Lanes<F> {
     type Output = Lanes<F>;
 
-    ghost sub_gives = { λ x y r. lanes F.Ring.value r ≡ (fours F.Ring.ring).add (lanes F.Ring.value x) ((fours F.Ring.ring).neg (lanes F.Ring.value y)) };
+    ghost sub_gives = { λ x y r. lanes F.value r ≡ (fours F.ring).add (lanes F.value x) ((fours F.ring).neg (lanes F.value y)) };
 
     fn sub(self, other: Lanes<F>) -> Lanes<F> {
         self.zip(other, |x, y| x - y)
@@ -91,7 +91,7 @@ impl<F: Ring> Sub for Lanes<F> {
 impl<F: Ring> Neg for Lanes<F> {
     type Output = Lanes<F>;
 
-    ghost neg_gives = { λ x r. lanes F.Ring.value r ≡ (fours F.Ring.ring).neg (lanes F.Ring.value x) };
+    ghost neg_gives = { λ x r. lanes F.value r ≡ (fours F.ring).neg (lanes F.value x) };
 
     fn neg(self) -> Lanes<F> {
         self.map(|x| -x)
@@ -101,7 +101,7 @@ impl<F: Ring> Neg for Lanes<F> {
 impl<F: Ring> Mul for Lanes<F> {
     type Output = Lanes<F>;
 
-    ghost mul_gives = { λ x y r. lanes F.Ring.value r ≡ (fours F.Ring.ring).mul (lanes F.Ring.value x) (lanes F.Ring.value y) };
+    ghost mul_gives = { λ x y r. lanes F.value r ≡ (fours F.ring).mul (lanes F.value x) (lanes F.value y) };
 
     fn mul(self, other: Lanes<F>) -> Lanes<F> {
         self.zip(other, |x, y| x * y)
@@ -109,11 +109,11 @@ impl<F: Ring> Mul for Lanes<F> {
 }
 
 impl<F: Ring> Ring for Lanes<F> {
-    ghost ring = { fours F.Ring.ring };
+    ghost ring = { fours F.ring };
 
-    ghost value = { lanes F.Ring.value };
+    ghost value = { lanes F.value };
 
-    ghost zero = { record { a = F.Ring.zero; b = F.Ring.zero; c = F.Ring.zero; d = F.Ring.zero } };
+    ghost zero = { record { a = F.zero; b = F.zero; c = F.zero; d = F.zero } };
 
     fn zero() -> Lanes<F> {
         Lanes::splat(F::zero())
@@ -123,28 +123,24 @@ impl<F: Ring> Ring for Lanes<F> {
         Lanes::splat(F::one())
     }
 
-    type Sum = Lanes<<F as Ring>::Sum>;
+    type Sum = Lanes<F::Sum>;
 
-    ghost total = { lanes F.Ring.total };
+    ghost total = { lanes F.total };
 
-    fn sum_none() -> Lanes<<F as Ring>::Sum> {
+    fn sum_none() -> Lanes<F::Sum> {
         Lanes::splat(F::sum_none())
     }
 
-    fn sum_more(
-        sum: Lanes<<F as Ring>::Sum>,
-        left: Lanes<F>,
-        right: Lanes<F>,
-    ) -> Lanes<<F as Ring>::Sum> {
+    fn sum_more(sum: Lanes<F::Sum>, left: Lanes<F>, right: Lanes<F>) -> Lanes<F::Sum> {
         let factors = left.zip(right, |x, y| (x, y));
         sum.zip(factors, |s, (x, y)| F::sum_more(s, x, y))
     }
 
-    fn sum_done(sum: Lanes<<F as Ring>::Sum>) -> Lanes<F> {
+    fn sum_done(sum: Lanes<F::Sum>) -> Lanes<F> {
         sum.map(|s| F::sum_done(s))
     }
 
-    ghost zero_law = { λ i. each F.Ring.ring (F.Ring.zero_law i) };
+    ghost zero_law = { λ i. each F.ring (F.zero_law i) };
 
     ghost can_add_law = { λ x y. tt };
 
@@ -165,7 +161,7 @@ impl<F: Ring> Ring for Lanes<F> {
 
 // A field element enters in every lane.
 impl<F: Field> From<F> for Lanes<F> {
-    ghost from_gives = { λ x r. lanes F.Ring.value r ≡ each F.Ring.ring (F.Ring.value x) };
+    ghost from_gives = { λ x r. lanes F.value r ≡ each F.ring (F.value x) };
 
     fn from(x: F) -> Lanes<F> {
         Lanes::splat(x)
@@ -175,7 +171,7 @@ impl<F: Field> From<F> for Lanes<F> {
 impl<F: Field> Add<F> for Lanes<F> {
     type Output = Lanes<F>;
 
-    ghost add_gives = { λ x y r. lanes F.Ring.value r ≡ (fours F.Ring.ring).add (lanes F.Ring.value x) (each F.Ring.ring (F.Ring.value y)) };
+    ghost add_gives = { λ x y r. lanes F.value r ≡ (fours F.ring).add (lanes F.value x) (each F.ring (F.value y)) };
 
     fn add(self, other: F) -> Lanes<F> {
         self.map(|x| x + other)
@@ -185,7 +181,7 @@ impl<F: Field> Add<F> for Lanes<F> {
 impl<F: Field> Mul<F> for Lanes<F> {
     type Output = Lanes<F>;
 
-    ghost mul_gives = { λ x y r. lanes F.Ring.value r ≡ (fours F.Ring.ring).mul (lanes F.Ring.value x) (each F.Ring.ring (F.Ring.value y)) };
+    ghost mul_gives = { λ x y r. lanes F.value r ≡ (fours F.ring).mul (lanes F.value x) (each F.ring (F.value y)) };
 
     fn mul(self, other: F) -> Lanes<F> {
         self.map(|x| x * other)
@@ -195,15 +191,11 @@ impl<F: Field> Mul<F> for Lanes<F> {
 impl<F: Field> Algebra<F> for Lanes<F> {
     ghost image = { λ x. record { a = x; b = x; c = x; d = x } };
 
-    fn mixed_sum_more(
-        sum: Lanes<<F as Ring>::Sum>,
-        element: Lanes<F>,
-        factor: F,
-    ) -> Lanes<<F as Ring>::Sum> {
+    fn mixed_sum_more(sum: Lanes<F::Sum>, element: Lanes<F>, factor: F) -> Lanes<F::Sum> {
         sum.zip(element, |s, x| F::sum_more(s, x, factor))
     }
 
-    ghost base = { (each F.Ring.ring, each_hom F.Ring.ring, λ x. refl) };
+    ghost base = { (each F.ring, each_hom F.ring, λ x. refl) };
 
     ghost from_law = { λ x y h. h };
 
@@ -219,9 +211,9 @@ impl<F: Field> Algebra<F> for Lanes<F> {
 impl<F: InjectiveMonomial> InjectiveMonomial for Lanes<F> {
     const D: u8 = F::D;
 
-    ghost D = { F.InjectiveMonomial.D };
+    ghost D = { F.D };
 
-    ghost least = { F.InjectiveMonomial.least };
+    ghost least = { F.least };
 }
 
 impl<F: PermutationMonomial> PermutationMonomial for Lanes<F> {

@@ -20,7 +20,7 @@ pub trait InjectiveMonomial: Ring {
 
     /// The D-fold product.
     fn injective_exp_n(self) -> Self
-        ensures { Self.Ring.value result ≡ power Self.Ring.ring D (Self.Ring.value self) }
+        ensures { Self.value result ≡ power Self.ring D (Self.value self) }
     {
         exp_small(self, Self::D)
     }
@@ -29,5 +29,5 @@ pub trait InjectiveMonomial: Ring {
 /// A rooted S-box: the root undoes the power and the power undoes the root, at every value.
 pub trait PermutationMonomial: InjectiveMonomial {
     fn injective_exp_root_n(self) -> Self
-        ensures { RootOf Self.Ring.ring Self.InjectiveMonomial.D (Self.Ring.value self) (Self.Ring.value result) };
+        ensures { RootOf Self.ring Self.D (Self.value self) (Self.value result) };
 }

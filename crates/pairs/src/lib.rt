@@ -47,7 +47,7 @@ impl<T: Copy> Pair<T> {
 impl<F: Ring> Add for Pair<F> {
     type Output = Pair<F>;
 
-    ghost add_gives = { λ x y r. parts F.Ring.value r ≡ (twos F.Ring.ring).add (parts F.Ring.value x) (parts F.Ring.value y) };
+    ghost add_gives = { λ x y r. parts F.value r ≡ (twos F.ring).add (parts F.value x) (parts F.value y) };
 
     fn add(self, other: Pair<F>) -> Pair<F> {
         self.zip(other, |x, y| x + y)
@@ -57,7 +57,7 @@ impl<F: Ring> Add for Pair<F> {
 impl<F: Ring> Sub for Pair<F> {
     type Output = Pair<F>;
 
-    ghost sub_gives = { λ x y r. parts F.Ring.value r ≡ (twos F.Ring.ring).add (parts F.Ring.value x) ((twos F.Ring.ring).neg (parts F.Ring.value y)) };
+    ghost sub_gives = { λ x y r. parts F.value r ≡ (twos F.ring).add (parts F.value x) ((twos F.ring).neg (parts F.value y)) };
 
     fn sub(self, other: Pair<F>) -> Pair<F> {
         self.zip(other, |x, y| x - y)
@@ -67,7 +67,7 @@ impl<F: Ring> Sub for Pair<F> {
 impl<F: Ring> Neg for Pair<F> {
     type Output = Pair<F>;
 
-    ghost neg_gives = { λ x r. parts F.Ring.value r ≡ (twos F.Ring.ring).neg (parts F.Ring.value x) };
+    ghost neg_gives = { λ x r. parts F.value r ≡ (twos F.ring).neg (parts F.value x) };
 
     fn neg(self) -> Pair<F> {
         self.map(|x| -x)
@@ -77,7 +77,7 @@ impl<F: Ring> Neg for Pair<F> {
 impl<F: Field> Mul for Pair<F> {
     type Output = Pair<F>;
 
-    ghost mul_gives = { λ x y r. parts F.Ring.value r ≡ (twos F.Ring.ring).mul (parts F.Ring.value x) (parts F.Ring.value y) };
+    ghost mul_gives = { λ x y r. parts F.value r ≡ (twos F.ring).mul (parts F.value x) (parts F.value y) };
 
     fn mul(self, other: Pair<F>) -> Pair<F> {
         let three = F::from_i64(3);
@@ -89,11 +89,11 @@ impl<F: Field> Mul for Pair<F> {
 }
 
 impl<F: Field> Ring for Pair<F> {
-    ghost ring = { twos F.Ring.ring };
+    ghost ring = { twos F.ring };
 
-    ghost value = { parts F.Ring.value };
+    ghost value = { parts F.value };
 
-    ghost zero = { record { a = F.Ring.zero; b = F.Ring.zero } };
+    ghost zero = { record { a = F.zero; b = F.zero } };
 
     fn zero() -> Pair<F> {
         Pair {
@@ -109,22 +109,18 @@ impl<F: Field> Ring for Pair<F> {
         }
     }
 
-    type Sum = Pair<<F as Ring>::Sum>;
+    type Sum = Pair<F::Sum>;
 
-    ghost total = { parts F.Ring.total };
+    ghost total = { parts F.total };
 
-    fn sum_none() -> Pair<<F as Ring>::Sum> {
+    fn sum_none() -> Pair<F::Sum> {
         Pair {
             a: F::sum_none(),
             b: F::sum_none(),
         }
     }
 
-    fn sum_more(
-        sum: Pair<<F as Ring>::Sum>,
-        left: Pair<F>,
-        right: Pair<F>,
-    ) -> Pair<<F as Ring>::Sum> {
+    fn sum_more(sum: Pair<F::Sum>, left: Pair<F>, right: Pair<F>) -> Pair<F::Sum> {
         let three = F::from_i64(3);
         let a = F::sum_more(sum.a, left.a, right.a);
         let b = F::sum_more(sum.b, left.a, right.b);
@@ -134,11 +130,11 @@ impl<F: Field> Ring for Pair<F> {
         }
     }
 
-    fn sum_done(sum: Pair<<F as Ring>::Sum>) -> Pair<F> {
+    fn sum_done(sum: Pair<F::Sum>) -> Pair<F> {
         sum.map(|s| F::sum_done(s))
     }
 
-    ghost zero_law = { λ i. (F.Ring.zero_law i, F.Ring.zero_law i) };
+    ghost zero_law = { λ i. (F.zero_law i, F.zero_law i) };
 
     ghost can_add_law = { λ x y. tt };
 
@@ -159,7 +155,7 @@ impl<F: Field> Ring for Pair<F> {
 
 // A field element enters with no u.
 impl<F: Field> From<F> for Pair<F> {
-    ghost from_gives = { λ x r. parts F.Ring.value r ≡ plain F.Ring.ring (F.Ring.value x) };
+    ghost from_gives = { λ x r. parts F.value r ≡ plain F.ring (F.value x) };
 
     fn from(x: F) -> Pair<F> {
         Pair { a: x, b: F::zero() }
@@ -169,7 +165,7 @@ impl<F: Field> From<F> for Pair<F> {
 impl<F: Field> Add<F> for Pair<F> {
     type Output = Pair<F>;
 
-    ghost add_gives = { λ x y r. parts F.Ring.value r ≡ (twos F.Ring.ring).add (parts F.Ring.value x) (plain F.Ring.ring (F.Ring.value y)) };
+    ghost add_gives = { λ x y r. parts F.value r ≡ (twos F.ring).add (parts F.value x) (plain F.ring (F.value y)) };
 
     fn add(self, other: F) -> Pair<F> {
         Pair {
@@ -182,7 +178,7 @@ impl<F: Field> Add<F> for Pair<F> {
 impl<F: Field> Mul<F> for Pair<F> {
     type Output = Pair<F>;
 
-    ghost mul_gives = { λ x y r. parts F.Ring.value r ≡ (twos F.Ring.ring).mul (parts F.Ring.value x) (plain F.Ring.ring (F.Ring.value y)) };
+    ghost mul_gives = { λ x y r. parts F.value r ≡ (twos F.ring).mul (parts F.value x) (plain F.ring (F.value y)) };
 
     fn mul(self, other: F) -> Pair<F> {
         self.map(|x| x * other)
@@ -190,34 +186,30 @@ impl<F: Field> Mul<F> for Pair<F> {
 }
 
 impl<F: Field> Algebra<F> for Pair<F> {
-    ghost image = { λ x. record { a = x; b = F.Ring.zero } };
+    ghost image = { λ x. record { a = x; b = F.zero } };
 
-    fn mixed_sum_more(
-        sum: Pair<<F as Ring>::Sum>,
-        element: Pair<F>,
-        factor: F,
-    ) -> Pair<<F as Ring>::Sum> {
+    fn mixed_sum_more(sum: Pair<F::Sum>, element: Pair<F>, factor: F) -> Pair<F::Sum> {
         sum.zip(element, |s, x| F::sum_more(s, x, factor))
     }
 
-    ghost base = { (plain F.Ring.ring, plain_hom F.Ring.ring, λ x i. (F.Ring.value x, F.Ring.zero_law i)) };
+    ghost base = { (plain F.ring, plain_hom F.ring, λ x i. (F.value x, F.zero_law i)) };
 
-    ghost from_law = { λ x y h. h ∙ plain_image F.Ring.ring F.Ring.zero_law (F.Ring.value x) };
+    ghost from_law = { λ x y h. h ∙ plain_image F.ring F.zero_law (F.value x) };
 
     ghost can_add_base_law = { λ x y. tt };
 
     ghost can_mul_base_law = { λ x y. tt };
 
-    ghost add_base_law = { λ x y r h. h ∙ ap ((twos F.Ring.ring).add (parts F.Ring.value x)) (plain_image F.Ring.ring F.Ring.zero_law (F.Ring.value y)) };
+    ghost add_base_law = { λ x y r h. h ∙ ap ((twos F.ring).add (parts F.value x)) (plain_image F.ring F.zero_law (F.value y)) };
 
-    ghost mul_base_law = { λ x y r h. h ∙ ap ((twos F.Ring.ring).mul (parts F.Ring.value x)) (plain_image F.Ring.ring F.Ring.zero_law (F.Ring.value y)) };
+    ghost mul_base_law = { λ x y r h. h ∙ ap ((twos F.ring).mul (parts F.value x)) (plain_image F.ring F.zero_law (F.value y)) };
 }
 
 // The power of pairs. Two pairs may have one power, so pairs have no root.
 impl<F: Field + InjectiveMonomial> InjectiveMonomial for Pair<F> {
     const D: u8 = F::D;
 
-    ghost D = { F.InjectiveMonomial.D };
+    ghost D = { F.D };
 
-    ghost least = { F.InjectiveMonomial.least };
+    ghost least = { F.least };
 }

@@ -7,7 +7,7 @@ use field::sizes::check_width;
 /// Writes the circulant matrix whose first column is `column` into `dense`, row by row.
 /// The buffer is the caller's, and as wide as the column is long.
 pub fn circulant_to_dense<F: Field>(column: &[i64], dense: &mut [F]) -> Result<(), Refusal>
-    ensures { Expands F.Ring.ring F.Ring.value column.now dense.old dense.new result }
+    ensures { Expands F.ring F.value column.now dense.old dense.new result }
 {
     let n = column.len();
     check_width(n)?;

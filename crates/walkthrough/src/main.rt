@@ -61,7 +61,7 @@ fn tell_folded(rt: &(impl Print + AllocGlobal), folded: &Folded<F17>) -> io::Res
 
 // The product of the elements for `a` and `b`: the element for the whole number `a` times `b`, in every field.
 fn product<F: Field>(a: i32, b: i32) -> F
-    ensures { F.Ring.value result ≡ integer F.Ring.ring (a *ℤ b) }
+    ensures { F.value result ≡ integer F.ring (a *ℤ b) }
 {
     F::from_i64(i64::from(a)) * F::from_i64(i64::from(b))
 }
