@@ -23,11 +23,10 @@ fn main(rt: HostRuntime) -> io::Result<()> {
 fn over_itself<F: InverseField>(x: F) -> Option<F>
     ensures { MatchOption result (F.value x ≡ F.ring.nil) (λ y. F.value y ≡ F.ring.one) }
 {
-    let found = x.inverse()?;
-    Some(x * found)
+    x.inverse().map(|found| x * found)
 }
 
-fn tell_inverse(rt: &HostRuntime) -> io::Result<()> {
+fn tell_inverse(rt: &impl Print) -> io::Result<()> {
     let three = KoalaBear::from_i64(3);
     rt.println("1. Preparation divides. In KoalaBear, modulo 2130706433:")?;
     if let Some(found) = three.inverse() {
@@ -49,7 +48,7 @@ fn there_and_back<F: PermutationMonomial>(x: F) -> F
     x.injective_exp_n().injective_exp_root_n()
 }
 
-fn tell_root(rt: &HostRuntime) -> io::Result<()> {
+fn tell_root(rt: &impl Print) -> io::Result<()> {
     let x = KoalaBear::from_i64(123456789);
     let cube = x.injective_exp_n();
     let root = x.injective_exp_root_n();
@@ -69,7 +68,7 @@ fn powers_abreast<F: InjectiveMonomial>(x: Lanes<F>) -> Lanes<F>
     x.injective_exp_n()
 }
 
-fn tell_lanes(rt: &HostRuntime) -> io::Result<()> {
+fn tell_lanes(rt: &impl Print) -> io::Result<()> {
     let Lanes { a, b, c, d } = powers_abreast(Lanes {
         a: KoalaBear::from_i64(2),
         b: KoalaBear::from_i64(-2),
@@ -82,13 +81,13 @@ fn tell_lanes(rt: &HostRuntime) -> io::Result<()> {
     println!(rt; "   {a}, {b}, {c} and {d}.")
 }
 
-fn tell_trust(rt: &HostRuntime) -> io::Result<()> {
+fn tell_trust(rt: &impl Print) -> io::Result<()> {
     rt.println(
         "4. Were one reduction wrong, bench, card and verifier would still meet: they reduce alike.\n   Only a counterparty with an arithmetic of its own would find another result.\n   No test among the three would show it, so the arithmetic is proved.",
     )
 }
 
-fn tell_cubes(rt: &HostRuntime) -> io::Result<()> {
+fn tell_cubes(rt: &impl Print) -> io::Result<()> {
     let [a, b] = worked_cubes().of_other;
     println!(rt;
         "5. On pairs a + b u with u u = 3 the cube has no root: 8 + 2u has the cube {a} + {b}u, as 1 has."

@@ -1,20 +1,18 @@
 use field::Field;
-use field::residue::{Modulus, Residue};
+use field::residue::{BabyBear, F17, KoalaBear};
 use std::process::Abort;
 
-// Each whole number enters the field of P elements as the residue beside it.
-fn enters<const P: u32>(rt: &impl Abort, cases: &[(i64, u32)])
-where
-    Residue<P>: Modulus<P>,
-{
+// Each whole number enters the field as the residue beside it.
+fn enters<F: Field + Into<u32>>(rt: &impl Abort, cases: &[(i64, u32)]) {
     for &(n, residue) in cases {
-        assert_eq!(rt; Residue::<P>::from_i64(n).as_canonical_u32(), residue);
+        let found: u32 = F::from_i64(n).into();
+        assert_eq!(rt; found, residue);
     }
 }
 
 #[test]
 fn whole_numbers_enter_the_field_of_17(rt: HostRuntime) {
-    enters::<17>(
+    enters::<F17>(
         &rt,
         &[
             (0, 0),
@@ -32,7 +30,7 @@ fn whole_numbers_enter_the_field_of_17(rt: HostRuntime) {
 
 #[test]
 fn whole_numbers_enter_koala_bear(rt: HostRuntime) {
-    enters::<2130706433>(
+    enters::<KoalaBear>(
         &rt,
         &[
             (0, 0),
@@ -52,7 +50,7 @@ fn whole_numbers_enter_koala_bear(rt: HostRuntime) {
 
 #[test]
 fn whole_numbers_enter_baby_bear(rt: HostRuntime) {
-    enters::<2013265921>(
+    enters::<BabyBear>(
         &rt,
         &[
             (0, 0),

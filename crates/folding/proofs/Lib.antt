@@ -1,3 +1,2 @@
-pub mod Foldings
 pub mod Pads
 pub mod Outputs

@@ -1,8 +1,7 @@
 -- Numbers in columns: what is written of one, one number more, and what a padded number says.
 use Rattle.std.proofs.Common.{◌≡◌, ℕ, zero, suc, ◌+◌, ◌-◌, ◌^◌, ◌<◌, ◌≤◌, true, false, List, [], ◌∷◌, ◌++◌, map, length, get_or, take, replicate, pos, decimal, sym, refl, ap, ◌∙◌, append_assoc, append-nil, add-zero, arith, length-append, rules}
-use Rattle.std.proofs.lemmas.List.{take_more, map_push, length-map, length-take}
+use Rattle.std.proofs.lemmas.List.{take_more, map_push, length-map, length-take, length-replicate}
 use Rattle.std.specs.Int.Digits.{number_from_digits, number_from_digits_after}
-use Rattle.std.proofs.lemmas.Simd.{length-replicate}
 use Rattle.std.proofs.lemmas.Str.Parse.{IsNumeralModel, numerals_by_fold}
 use Rattle.std.proofs.lemmas.Fmt.{digits_decimal, digits_value-decimal, length-decimal-le, decimal_nonempty}
 use Rattle.std.specs.Char.{encode_utf8}

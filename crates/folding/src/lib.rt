@@ -20,7 +20,7 @@ pub struct Folded<F> {
 }
 
 /// Folds the sheet that `bytes` are; a refusal of any step comes out as it is.
-pub fn fold<F: Field + Clone>(heap: Global, bytes: &[u8]) -> Result<Folded<F>, SheetError>
+pub fn fold<F: Field>(heap: Global, bytes: &[u8]) -> Result<Folded<F>, SheetError>
     ensures { Folds F.ring F.value bytes.now result }
 {
     let sheet = read_sheet::<F>(heap, bytes)?;

@@ -6,9 +6,9 @@ impl<const P: u32> InjectiveMonomial for Residue<P>
 where
     Residue<P>: PrimeModulus<P>,
 {
-    const D: u8 = <Residue<P> as PrimeModulus<P>>::POWER;
+    const D: u8 = <Residue<P> as PrimeModulus<P>>::POWER_EXPONENT;
 
-    ghost D = { ⟦<Residue<P> as PrimeModulus<P>>⟧.POWER };
+    ghost D = { ⟦<Residue<P> as PrimeModulus<P>>⟧.POWER_EXPONENT };
 
     ghost least = { ⟦<Residue<P> as PrimeModulus<P>>⟧.least };
 }
@@ -19,6 +19,6 @@ where
     Residue<P>: PrimeModulus<P>,
 {
     fn injective_exp_root_n(self) -> Residue<P> {
-        exp_u64(self, u64::from(<Residue<P> as PrimeModulus<P>>::ROOT))
+        exp_u64(self, u64::from(<Residue<P> as PrimeModulus<P>>::ROOT_EXPONENT))
     }
 }

@@ -12,33 +12,26 @@ pub fn answer<F: InverseField + PermutationMonomial + Into<u32>>(
     given: &[i64],
 ) -> Result<Option<Vec<u32>>, AllocError> {
     let given = elements::<F>(heap, given)?;
-    let found = match (kind, given.as_slice()) {
-        (Kind::From, [x]) => single(heap, *x),
-        (Kind::Product, [x, y]) => single(heap, *x * *y),
-        (Kind::Inverse, [x]) => x.inverse().into_iter().map(F::into).collect(heap),
-        (Kind::Power, [x]) => single(heap, x.injective_exp_n()),
-        (Kind::Root, [x]) => single(heap, x.injective_exp_root_n()),
-        (Kind::PowerLanes, [a, b, c, d]) => four(heap, lanes(*a, *b, *c, *d).injective_exp_n()),
+    Ok(Some(match (kind, given.as_slice()) {
+        (Kind::From, [x]) => vec![in heap; (*x).into()]?,
+        (Kind::Product, [x, y]) => vec![in heap; (*x * *y).into()]?,
+        (Kind::Inverse, [x]) => x.inverse().into_iter().map(F::into).collect(heap)?,
+        (Kind::Power, [x]) => vec![in heap; x.injective_exp_n().into()]?,
+        (Kind::Root, [x]) => vec![in heap; x.injective_exp_root_n().into()]?,
+        (Kind::PowerLanes, [a, b, c, d]) => four(heap, lanes(*a, *b, *c, *d).injective_exp_n())?,
         (Kind::RootLanes, [a, b, c, d]) => {
-            four(heap, lanes(*a, *b, *c, *d).injective_exp_root_n())
+            four(heap, lanes(*a, *b, *c, *d).injective_exp_root_n())?
         }
-        (Kind::PowerPair, [a, b]) => two(heap, Pair { a: *a, b: *b }.injective_exp_n()),
+        (Kind::PowerPair, [a, b]) => {
+            let Pair { a, b } = Pair { a: *a, b: *b }.injective_exp_n();
+            vec![in heap; a.into(), b.into()]?
+        }
         (Kind::Dot, all) => {
             let (left, right) = all.split_at(all.len() / 2);
-            single(heap, F::dot_product(left, right))
+            vec![in heap; F::dot_product(left, right).into()]?
         }
         _ => return Ok(None),
-    };
-    Ok(Some(found?))
-}
-
-fn single<F: Into<u32>>(heap: Global, x: F) -> Result<Vec<u32>, AllocError> {
-    Ok(vec![in heap; x.into()]?)
-}
-
-fn two<F: Into<u32>>(heap: Global, x: Pair<F>) -> Result<Vec<u32>, AllocError> {
-    let Pair { a, b } = x;
-    Ok(vec![in heap; a.into(), b.into()]?)
+    }))
 }
 
 fn four<F: Into<u32>>(heap: Global, x: Lanes<F>) -> Result<Vec<u32>, AllocError> {

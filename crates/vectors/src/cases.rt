@@ -1,6 +1,7 @@
-use std::alloc::{AllocError, AllocFailed, Global};
+use std::alloc::{AllocError, Global};
 use std::fmt;
 use std::str::{FromStr, SplitWhitespace};
+use thiserror::Error;
 
 /// What is asked of a field.
 #[derive(Clone, Copy, PartialEq, Eq, PartialOrd, Ord)]
@@ -86,17 +87,13 @@ impl FromStr for Over {
     }
 }
 
-/// Why a line is no case.
-#[derive(Clone, Copy, Debug)]
+//// Why a line is no case.
+#[derive(Debug, Drop, Error)]
 pub enum CaseError {
+    #[error("no case")]
     Form,
-    Memory(AllocError),
-}
-
-impl<T: Drop> From<AllocFailed<T>> for CaseError {
-    fn from(error: AllocFailed<T>) -> CaseError {
-        CaseError::Memory(AllocError::from(error))
-    }
+    #[error("memory is wanting")]
+    Memory(#[from(alloc)] AllocError),
 }
 
 /// A line such as `product 17 3 7 = 4`; an inverse that is absent has nothing behind the sign.
@@ -128,9 +125,7 @@ fn numbers<T: FromStr + Drop>(heap: Global, words: SplitWhitespace<'_>) -> Resul
 where
     T::Err: Drop,
 {
-    let mut out = Vec::new(heap);
-    for word in words {
-        out.push(word.parse::<T>().map_err(|_| CaseError::Form)?)?;
-    }
-    Ok(out)
+    words
+        .map(|word| word.parse::<T>().map_err(|_| CaseError::Form))
+        .try_collect(heap)
 }

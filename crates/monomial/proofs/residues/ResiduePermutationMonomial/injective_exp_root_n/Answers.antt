@@ -10,9 +10,9 @@ returns g c =
     let b = g.bound-1 in
     let R = residues g.row.P g.bound-2.big in
     let x : Fin g.row.P = (c.args.self.value, c.args.self.reduced) in
-    let exponent : c.from.result ≡ b.ROOT = search rules in
+    let exponent : c.from.result ≡ b.ROOT_EXPONENT = search rules in
     record {
-      root = power R b.ROOT;
-      undoes = power_root g.row.P g.bound-2.big b.prime b.POWER b.ROOT b.turns b.undone;
+      root = power R b.ROOT_EXPONENT;
+      undoes = power_root g.row.P g.bound-2.big b.prime b.POWER_EXPONENT b.ROOT_EXPONENT b.turns b.undone;
       gives = c.exp_u64.ensures ∙ ap (λ (n : ℕ). power R n x) exponent;
     }
