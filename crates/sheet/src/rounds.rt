@@ -11,73 +11,10 @@ use field::Field;
 use field::refusal::Refusal;
 use std::alloc::{AllocError, Global};
 
-// The lines of the constants, `count` of them with `width` numbers each.
+// Row after row of the lines of the constants: `left` of them, of which the next has the number
+// `line`. A loop takes a copy, so that the lines can be walked twice.
 #[derive(Clone, Copy)]
-pub(crate) struct Rounds<'a> {
-    bytes: &'a [u8],
-    width: usize,
-    count: usize,
-    ghost wide: { width ≤ 24 },
-    ghost few: { count ≤ 160 },
-}
-
-impl<'a> Rounds<'a> {
-    ghost use Rattle.sheet.specs.Rows.{rounds_say, rows_say, Stopped};
-
-    pub(crate) fn new(bytes: &'a [u8], sizes: Sizes) -> Rounds<'a>
-        ensures { rounds_say result ≡ rows_at sizes.width (sizes.rounds_f + sizes.rounds_p) 3 bytes.entry.now }
-    {
-        Rounds {
-            bytes,
-            width: sizes.width,
-            count: sizes.rounds_f + sizes.rounds_p,
-        }
-    }
-
-    // The first of the lines has the number 3.
-    fn rows(self) -> Rows<'a>
-        ensures { rows_say result ≡ rounds_say self.entry }
-    {
-        Rows {
-            bytes: self.bytes,
-            width: self.width,
-            left: self.count,
-            line: 3,
-        }
-    }
-
-    // Whether these lines and no other follow.
-    pub(crate) fn check(self) -> Result<(), Refusal>
-        ensures { MatchResult result (λ _. is_ok (rounds_say self.entry) ≡ true) (λ q. rounds_say self.entry ≡ Err q) }
-    {
-        for row in self.rows() {
-            row?;
-        }
-        Ok(())
-    }
-
-    // The constants that the lines say.
-    pub(crate) fn read<F: Field>(self, heap: Global) -> Result<Vec<F>, SheetError>
-        ensures { MatchResult result (λ v. (zs : List ℤ) × (rounds_say self.entry ≡ Ok zs) × (map F.Ring.value v.items ≡ map (integer F.Ring.ring) zs)) (Stopped (rounds_say self.entry)) }
-    {
-        let mut constants = Vec::new(heap);
-        for row in self.rows() {
-            append(&mut constants, row?.as_slice())?;
-        }
-        Ok(constants)
-    }
-}
-
-// Puts the field's elements for `numbers` behind `constants`.
-fn append<F: Field>(constants: &mut Vec<F>, numbers: &[i64]) -> Result<(), AllocError>
-    ensures { OnOk result (map F.Ring.value constants.new.items ≡ map F.Ring.value constants.old.items ++ map (integer F.Ring.ring) numbers.now) }
-{
-    constants.extend(numbers.iter().map(|n| F::from_i64(*n)))
-}
-
-// Row after row of the lines that are left, of which the next has the number `line`.
-#[derive(Drop)]
-struct Rows<'a> {
+pub(crate) struct Rows<'a> {
     bytes: &'a [u8],
     width: usize,
     left: usize,
@@ -86,7 +23,41 @@ struct Rows<'a> {
     ghost few: { left + line ≤ 163 },
 }
 
-impl Rows<'_> {
+impl<'a> Rows<'a> {
+    ghost use Rattle.sheet.specs.Rows.{rows_say, Stopped};
+
+    pub(crate) fn new(bytes: &'a [u8], sizes: Sizes) -> Rows<'a>
+        ensures { rows_say result ≡ rows_at sizes.width (sizes.rounds_f + sizes.rounds_p) 3 bytes.entry.now }
+    {
+        Rows {
+            bytes,
+            width: sizes.width,
+            left: sizes.rounds_f + sizes.rounds_p,
+            line: 3,
+        }
+    }
+
+    // Whether these lines and no other follow.
+    pub(crate) fn check(self) -> Result<(), Refusal>
+        ensures { MatchResult result (λ _. is_ok (rows_say self.entry) ≡ true) (λ q. rows_say self.entry ≡ Err q) }
+    {
+        for row in self {
+            row?;
+        }
+        Ok(())
+    }
+
+    // The constants that the lines say.
+    pub(crate) fn read<F: Field>(self, heap: Global) -> Result<Vec<F>, SheetError>
+        ensures { MatchResult result (λ v. (zs : List ℤ) × (rows_say self.entry ≡ Ok zs) × (map F.Ring.value v.items ≡ map (integer F.Ring.ring) zs)) (Stopped (rows_say self.entry)) }
+    {
+        let mut constants = Vec::new(heap);
+        for row in self {
+            append(&mut constants, row?.as_slice())?;
+        }
+        Ok(constants)
+    }
+
     // The refusal of the next line, after which no row comes.
     fn refuse(&mut self) -> Refusal
         ensures refusal { result ≡ Line self.old.line }
@@ -124,4 +95,11 @@ impl Iterator for Rows<'_> {
         self.line += 1;
         Some(Ok(row))
     }
+}
+
+// Puts the field's elements for `numbers` behind `constants`.
+fn append<F: Field>(constants: &mut Vec<F>, numbers: &[i64]) -> Result<(), AllocError>
+    ensures { OnOk result (map F.Ring.value constants.new.items ≡ map F.Ring.value constants.old.items ++ map (integer F.Ring.ring) numbers.now) }
+{
+    constants.extend(numbers.iter().map(|n| F::from_i64(*n)))
 }

@@ -1,7 +1,7 @@
 use Rattle.std.proofs.Common.{◌++◌}
 use Rattle.sheet.specs.Rows.{numbers_of}
 use Rattle.sheet.proofs.Rows.{row_more}
-use Rattle.sheet.proofs.rounds.Rounds.check.Goals as goal
+use Rattle.sheet.proofs.rounds.Rows.check.Goals as goal
 
 pub loop-row-preserved : goal.loop-row-preserved
 loop-row-preserved c =

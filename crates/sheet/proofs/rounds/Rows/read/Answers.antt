@@ -3,7 +3,7 @@ use Rattle.std.proofs.lemmas.List.{map-append}
 use Rattle.ring.specs.Rings.{integer}
 use Rattle.sheet.specs.Rows.{numbers_of}
 use Rattle.sheet.proofs.Rows.{row_more}
-use Rattle.sheet.proofs.rounds.Rounds.read.Goals as goal
+use Rattle.sheet.proofs.rounds.Rows.read.Goals as goal
 
 pub loop-row-preserved : goal.loop-row-preserved
 loop-row-preserved g c =
