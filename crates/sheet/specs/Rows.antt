@@ -14,7 +14,7 @@ numbers_of r = take r.width r.numbers
 
 -- what the lines that are left say
 abbrev pub rows_say : Rows → Result (List ℤ) Refusal
-rows_say r = rows_at r.width r.left r.line r.bytes.now
+rows_say r = rows_at r.sizes.width r.left r.line r.bytes.now
 
 -- the next of the lines that say all, and what the lines after it say
 abbrev pub NextRow : Result (List ℤ) Refusal → Option (Result Row Refusal) → Result (List ℤ) Refusal → Type 0

@@ -22,7 +22,7 @@ pub(crate) fn check_form(bytes: &[u8]) -> Result<Form<'_>, Refusal>
     let mut header = [0; 3];
     let body = read_line(bytes, &mut header).ok_or(Refusal::Line(1))?;
     let sizes = Sizes::try_from(header)?;
-    let (column, lines) = Row::read(body, sizes.width).ok_or(Refusal::Line(2))?;
+    let (column, lines) = Row::read(body, sizes).ok_or(Refusal::Line(2))?;
     let rounds = Rows::new(lines, sizes);
     rounds.check()?;
     Ok(Form {

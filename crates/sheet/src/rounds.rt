@@ -16,11 +16,10 @@ use std::alloc::{AllocError, Global};
 #[derive(Clone, Copy)]
 pub(crate) struct Rows<'a> {
     bytes: &'a [u8],
-    width: usize,
+    sizes: Sizes,
     left: usize,
     line: usize,
-    ghost wide: { width ≤ 24 },
-    ghost few: { left + line ≤ 163 },
+    ghost few: { left + line ≤ sizes.rounds_f + sizes.rounds_p + 3 },
 }
 
 impl<'a> Rows<'a> {
@@ -31,7 +30,7 @@ impl<'a> Rows<'a> {
     {
         Rows {
             bytes,
-            width: sizes.width,
+            sizes,
             left: sizes.rounds_f + sizes.rounds_p,
             line: 3,
         }
@@ -87,7 +86,7 @@ impl Iterator for Rows<'_> {
                 _ => Some(Err(self.refuse())),
             };
         }
-        let Some((row, rest)) = Row::read(self.bytes, self.width) else {
+        let Some((row, rest)) = Row::read(self.bytes, self.sizes) else {
             return Some(Err(self.refuse()));
         };
         self.bytes = rest;
