@@ -22,13 +22,13 @@ impl Row {
     {
         let width = sizes.width;
         let mut numbers = [0; MAX_WIDTH];
-        let rest = read_line(bytes, &mut numbers[0..width])?;
+        let rest = read_line(bytes, &mut numbers[..width])?;
         Some((Row { numbers, width }, rest))
     }
 
     pub(crate) fn as_slice(&self) -> &[i64]
         ensures { result.now ≡ numbers_of self.now }
     {
-        &self.numbers[0..self.width]
+        &self.numbers[..self.width]
     }
 }
