@@ -107,32 +107,28 @@ glue_lines (b ∷ bs) =
     ]
 
 -- where the text begins with a line of k numbers, that is its first line
-pub cut : (k : ℕ) (xs : List ℕ) → is_some (line_at k xs) ≡ true → lines xs ≡ take (11 * k + 1) xs ∷ lines (drop (11 * k + 1) xs)
-cut k xs h =
-    ap lines (sym (take-append-drop (11 * k + 1) xs)) ∙ (line_lines k (take (11 * k + 1) xs) (drop (11 * k + 1) xs) h).0
+pub cut : (k : ℕ) (xs : List ℕ) (zs : List ℤ) → line_at k xs ≡ Some zs → lines xs ≡ take (11 * k + 1) xs ∷ lines (drop (11 * k + 1) xs)
+cut k xs zs e =
+    ap lines (sym (take-append-drop (11 * k + 1) xs)) ∙ (line_lines k (take (11 * k + 1) xs) (drop (11 * k + 1) xs) (ap is_some e)).0
 
-none_from : {A : Type 0} (o : Option A) → is_some o ≡ false → o ≡ None
-none_from None h = refl
-none_from (Some x) h = absurd (grind arith)
-
-cut_by : (k : ℕ) (xs : List ℕ) (ls : List (List ℕ)) → lines xs ≡ ls → is_some (line_at k xs) ≡ false → line_of k ls ≡ line_at k xs
-cut_by k xs [] e h = sym (none_from (line_at k xs) h)
-cut_by k xs (l ∷ ls) e h =
+cut_none : (k : ℕ) (xs : List ℕ) (ls : List (List ℕ)) → lines xs ≡ ls → line_at k xs ≡ None → line_of k ls ≡ line_at k xs
+cut_none k xs [] e h = sym h
+cut_none k xs (l ∷ ls) e h =
     let x : xs ≡ l ++ glued ls = sym (glue_lines xs) ∙ ap glued e in
-    elim (is_some (line_values k l)) as (λ t. is_some (line_values k l) ≡ t → line_values k l ≡ line_at k xs) [
-      | true ↦ λ g. ap (line_values k) (sym (take_at l (glued ls) (11 * k + 1) (line_lines k l [] g).1) ∙ ap (take (11 * k + 1)) (sym x))
-      | false ↦ λ g. none_from (line_values k l) g ∙ sym (none_from (line_at k xs) h)
+    elim (line_values k l) as (λ o. line_values k l ≡ o → o ≡ line_at k xs) [
+      | None ↦ λ g. sym h
+      | Some zs ↦ λ g. sym g ∙ ap (line_values k) (sym (take_at l (glued ls) (11 * k + 1) (line_lines k l [] (ap is_some g)).1) ∙ ap (take (11 * k + 1)) (sym x))
     ] refl
 
 pub cut_line : (k : ℕ) (xs : List ℕ) → line_of k (lines xs) ≡ line_at k xs
 cut_line k xs =
-    elim (is_some (line_at k xs)) as (λ t. is_some (line_at k xs) ≡ t → line_of k (lines xs) ≡ line_at k xs) [
-      | true ↦ λ h. ap (line_of k) (cut k xs h)
-      | false ↦ λ h. cut_by k xs (lines xs) refl h
+    elim (line_at k xs) as (λ o. line_at k xs ≡ o → line_of k (lines xs) ≡ o) [
+      | None ↦ λ h. cut_none k xs (lines xs) refl h ∙ h
+      | Some zs ↦ λ h. ap (line_of k) (cut k xs zs h) ∙ h
     ] refl
 
 pub cut_rest : (k : ℕ) (xs : List ℕ) (zs : List ℤ) → line_at k xs ≡ Some zs → drop 1 (lines xs) ≡ lines (drop (11 * k + 1) xs)
-cut_rest k xs zs e = ap (drop 1) (cut k xs (ap is_some e))
+cut_rest k xs zs e = ap (drop 1) (cut k xs zs e)
 
 rows_zero : (k i b : ℕ) (bs : List ℕ) → rows k zero i (lines (b ∷ bs)) ≡ rows_at k zero i (b ∷ bs)
 rows_zero k i b bs =
