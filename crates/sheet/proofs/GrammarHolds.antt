@@ -1,8 +1,7 @@
 -- The accepted texts are the sheets that are laid out of fields and lines.
-use Rattle.std.proofs.Common.{◌≡◌, ℕ, zero, suc, ◌+◌, true, eqb, List, [], ◌∷◌, ◌++◌, length, take, drop, ℤ, pos, is_some, Some, None, Ok, Err, Result, sym, refl, ap, ◌∙◌, subst, append_assoc, arith}
+use Rattle.std.proofs.Common.{◌≡◌, ℕ, zero, suc, ◌+◌, true, eqb, List, [], ◌∷◌, ◌++◌, length, take, drop, ℤ, pos, is_some, Some, None, Ok, Err, sym, refl, ap, ◌∙◌, subst, append_assoc, arith}
 use Rattle.std.proofs.lemmas.List.{take-append-drop, take_at, drop_at}
 use Rattle.std.proofs.lemmas.Bool.Decides.{nat_tests}
-use Rattle.field.specs.declared.refusal.Refusal.{Refusal}
 use Rattle.sheet.specs.Lines.{field_value, both, line_values, lines}
 use Rattle.sheet.specs.Sheets.{Parameters, and_then, ahead, rows, of_lines}
 use Rattle.sheet.specs.Grammar.{glued, Say, LineSays, LinesSay, SheetSays, GrammarHolds}
@@ -111,12 +110,9 @@ is_of bs m w =
     ap of_lines cut
     ∙ closed (w.first ∷ w.second ∷ w.later) m (record { first = first; passed = not_refused n m.full m.partial w.shape.sizes; second = second; later = later })
 
-same_ok : (m n : Parameters) → ◌≡◌ {A = Result Parameters Refusal} (Ok m) (Ok n) → m ≡ n
-same_ok m n e = cc
-
 pub grammar_holds : GrammarHolds
 grammar_holds =
     record {
       laid = λ bs m. (λ e. says_of bs m (lines bs) (glue_lines bs) (opened (lines bs) m e), is_of bs m);
-      once = λ bs m n a b. same_ok m n (sym (is_of bs m a) ∙ is_of bs n b);
+      once = λ bs m n a b. let e = sym (is_of bs m a) ∙ is_of bs n b in cc;
     }

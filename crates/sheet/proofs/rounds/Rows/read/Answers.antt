@@ -14,7 +14,7 @@ loop-row-preserved g c =
       tt,
       (
         w.0 ++ row,
-        row_more w.0 _ _ _ _ _ c.in_ok-row.was c.in-Some.ensures.steps w.1,
+        row_more w.0 _ _ c.in_ok-row.was c.in-Some.ensures.steps w.1,
         c.in_ok-append.ensures ∙ ap (λ l. l ++ elements c.as_slice.result.now) w.2 ∙ ap (λ l. elements w.0 ++ elements l) c.as_slice.ensures ∙ sym (map-append (integer g.F.Ring.ring) w.0 row),
       ),
     )
