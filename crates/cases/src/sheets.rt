@@ -2,6 +2,7 @@ use field::residue::F17;
 use sheet::error::SheetError;
 use sheet::read_sheet;
 use std::alloc::{AllocError, Global};
+use std::process::Abort;
 use std::test::Fail;
 
 // The lines of a sheet that is read: width 2, six full rounds, one partial round.
@@ -14,10 +15,14 @@ const LINES: usize = 9;
 // That sheet with `text` in the place of its line `at`, counted from 1.
 fn with_line(heap: Global, at: usize, text: &str) -> Result<String, AllocError> {
     (1..=LINES)
-        .map(|line| match line {
-            _ if line == at => text,
-            1 => SIZES,
-            _ => ROUND,
+        .map(|line| {
+            if line == at {
+                text
+            } else if line == 1 {
+                SIZES
+            } else {
+                ROUND
+            }
         })
         .collect(heap)
 }
@@ -29,6 +34,19 @@ fn refusal(heap: Global, sheet: &str) -> Result<Option<(u8, usize)>, AllocError>
         Err(SheetError::Refused(refusal)) => Ok(Some((refusal.number(), refusal.place()))),
         Err(SheetError::Memory(error)) => Err(error),
     }
+}
+
+// The sheet with `text` in the place of its line `at` has this answer.
+fn answers(
+    rt: &impl Abort,
+    heap: Global,
+    at: usize,
+    text: &str,
+    answer: Option<(u8, usize)>,
+) -> Result<(), AllocError> {
+    let sheet = with_line(heap, at, text)?;
+    assert_eq!(rt; refusal(heap, sheet.as_str())?, answer, "{text}");
+    Ok(())
 }
 
 #[test]
@@ -61,8 +79,7 @@ fn forms(rt: HostRuntime) -> Result<(), Fail> {
         (1, "          1          5\n", Some((10, 1))),
         (1, "          1          5          0", Some((10, 1))),
     ] {
-        let sheet = with_line(heap, at, text)?;
-        assert_eq!(rt; refusal(heap, sheet.as_str())?, answer, "{}", text);
+        answers(&rt, heap, at, text, answer)?;
     }
     assert_eq!(rt; refusal(heap, "")?, Some((10, 1)));
     Ok(())
@@ -83,8 +100,7 @@ fn sizes(rt: HostRuntime) -> Result<(), Fail> {
         ("         24          6          1\n", Some((10, 2))),
         ("          2          7          1\n", Some((10, 10))),
     ] {
-        let sheet = with_line(heap, 1, text)?;
-        assert_eq!(rt; refusal(heap, sheet.as_str())?, answer, "{}", text);
+        answers(&rt, heap, 1, text, answer)?;
     }
     Ok(())
 }
@@ -93,18 +109,12 @@ fn sizes(rt: HostRuntime) -> Result<(), Fail> {
 fn numbers(rt: HostRuntime) -> Result<(), Fail> {
     let heap = rt.alloc();
     let text = with_line(heap, 2, "         -100000000018\n")?;
-    let Ok(sheet) = read_sheet::<F17>(heap, text.as_bytes()) else {
-        assert!(rt; false);
-        return Ok(());
-    };
+    let sheet = read_sheet::<F17>(heap, text.as_bytes())?;
     assert!(rt; sheet.width == 2 && sheet.rounds_f == 6 && sheet.rounds_p == 1);
     assert!(rt; sheet.column.as_slice() == [-1, 18].as_slice());
     assert_eq!(rt; sheet.constants.len(), 14);
-    let Some(last) = sheet.constants.last() else {
-        assert!(rt; false);
-        return Ok(());
-    };
-    assert_eq!(rt; last.as_canonical_u32(), 16);
+    let last = sheet.constants.last().map(|c| c.as_canonical_u32());
+    assert_eq!(rt; last, Some(16));
     Ok(())
 }
 

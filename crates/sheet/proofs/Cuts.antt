@@ -1,5 +1,5 @@
 -- The lines of a text, by places in it.
-use Rattle.std.proofs.Common.{◌≡◌, ℕ, zero, suc, ◌+◌, ◌*◌, Bool, true, false, cond, eqb, List, [], ◌∷◌, ◌++◌, length, take, drop, ℤ, Some, None, Option, Result, sym, refl, ap, ◌∙◌, append_assoc, arith, length-append}
+use Rattle.std.proofs.Common.{◌≡◌, ℕ, zero, suc, ◌+◌, ◌*◌, Bool, true, false, cond, eqb, List, [], ◌∷◌, ◌++◌, length, take, drop, ℤ, is_some, Some, None, Option, Result, sym, refl, ap, ◌∙◌, append_assoc, arith, length-append}
 use Rattle.std.proofs.lemmas.List.{take-append-drop, take_at, drop-drop}
 use Rattle.std.proofs.lemmas.Bool.Decides.{nat_tests}
 use Rattle.field.specs.declared.refusal.Refusal.{Refusal}
@@ -20,10 +20,6 @@ abbrev pub unbroken : List ℕ → Bool
 unbroken [] = true
 unbroken (b ∷ bs) = cond (eqb b 10) false (unbroken bs)
 
-abbrev pub given : {A : Type 0} → Option A → Bool
-given None = false
-given (Some x) = true
-
 digit_plain : (b : ℕ) → is_digit b ≡ true → eqb b 10 ≡ false
 digit_plain b h = grind (arith, nat_tests)
 
@@ -34,37 +30,37 @@ all_unbroken (b ∷ bs) h =
     let q : all_digits bs ≡ true = grind arith in
     rw (digit_plain b p) (all_unbroken bs q)
 
-digits_unbroken : (bs : List ℕ) → given (digits_value bs) ≡ true → unbroken bs ≡ true
+digits_unbroken : (bs : List ℕ) → is_some (digits_value bs) ≡ true → unbroken bs ≡ true
 digits_unbroken [] h = refl
 digits_unbroken (b ∷ bs) h = let p : all_digits (b ∷ bs) ≡ true = grind arith in all_unbroken (b ∷ bs) p
 
-given_plain : (o : Option ℕ) → given (plain o) ≡ given o
-given_plain None = refl
-given_plain (Some n) = refl
+is_some-plain : (o : Option ℕ) → is_some (plain o) ≡ is_some o
+is_some-plain None = refl
+is_some-plain (Some n) = refl
 
-given_negated : (o : Option ℕ) → given (negated o) ≡ given o
-given_negated None = refl
-given_negated (Some n) = refl
+is_some-negated : (o : Option ℕ) → is_some (negated o) ≡ is_some o
+is_some-negated None = refl
+is_some-negated (Some n) = refl
 
-number_unbroken : (bs : List ℕ) → given (number_value bs) ≡ true → unbroken bs ≡ true
+number_unbroken : (bs : List ℕ) → is_some (number_value bs) ≡ true → unbroken bs ≡ true
 number_unbroken [] h = refl
 number_unbroken (b ∷ bs) h =
-    elim (eqb b 45) as (λ t. eqb b 45 ≡ t → given (cond t (negated (digits_value bs)) (plain (digits_value (b ∷ bs)))) ≡ true → unbroken (b ∷ bs) ≡ true) [
-      | true ↦ λ e k. let n : eqb b 10 ≡ false = grind (arith, nat_tests) in rw n (digits_unbroken bs (sym (given_negated (digits_value bs)) ∙ k))
-      | false ↦ λ e k. digits_unbroken (b ∷ bs) (sym (given_plain (digits_value (b ∷ bs))) ∙ k)
+    elim (eqb b 45) as (λ t. eqb b 45 ≡ t → is_some (cond t (negated (digits_value bs)) (plain (digits_value (b ∷ bs)))) ≡ true → unbroken (b ∷ bs) ≡ true) [
+      | true ↦ λ e k. let n : eqb b 10 ≡ false = grind (arith, nat_tests) in rw n (digits_unbroken bs (sym (is_some-negated (digits_value bs)) ∙ k))
+      | false ↦ λ e k. digits_unbroken (b ∷ bs) (sym (is_some-plain (digits_value (b ∷ bs))) ∙ k)
     ] refl h
 
-text_unbroken : (bs : List ℕ) → given (text_value bs) ≡ true → unbroken bs ≡ true
+text_unbroken : (bs : List ℕ) → is_some (text_value bs) ≡ true → unbroken bs ≡ true
 text_unbroken [] h = refl
 text_unbroken (b ∷ bs) h =
-    elim (eqb b 32) as (λ t. eqb b 32 ≡ t → given (cond t (text_value bs) (number_value (b ∷ bs))) ≡ true → unbroken (b ∷ bs) ≡ true) [
+    elim (eqb b 32) as (λ t. eqb b 32 ≡ t → is_some (cond t (text_value bs) (number_value (b ∷ bs))) ≡ true → unbroken (b ∷ bs) ≡ true) [
       | true ↦ λ e k. let n : eqb b 10 ≡ false = grind (arith, nat_tests) in rw n (text_unbroken bs k)
       | false ↦ λ e k. number_unbroken (b ∷ bs) k
     ] refl h
 
-field_unbroken : (bs : List ℕ) → given (field_value bs) ≡ true → (length bs ≡ 11) × (unbroken bs ≡ true)
+field_unbroken : (bs : List ℕ) → is_some (field_value bs) ≡ true → (length bs ≡ 11) × (unbroken bs ≡ true)
 field_unbroken bs h =
-    elim (eqb (length bs) 11) as (λ t. eqb (length bs) 11 ≡ t → given (cond t (text_value bs) None) ≡ true → (length bs ≡ 11) × (unbroken bs ≡ true)) [
+    elim (eqb (length bs) 11) as (λ t. eqb (length bs) 11 ≡ t → is_some (cond t (text_value bs) None) ≡ true → (length bs ≡ 11) × (unbroken bs ≡ true)) [
       | true ↦ λ e k. (grind (arith, nat_tests), text_unbroken bs k)
       | false ↦ λ e k. absurd (grind arith)
     ] refl h
@@ -77,18 +73,18 @@ lines_unbroken (b ∷ bs) ys l ls u e =
     let v : unbroken bs ≡ true = grind arith in
     rw n (ap (begin b) (lines_unbroken bs ys l ls v e))
 
-given_both : (o : Option ℤ) (r : Option (List ℤ)) → given (both o r) ≡ true → (given o ≡ true) × (given r ≡ true)
-given_both None r h = absurd (grind arith)
-given_both (Some z) None h = absurd (grind arith)
-given_both (Some z) (Some zs) h = (refl, refl)
+is_some-both : (o : Option ℤ) (r : Option (List ℤ)) → is_some (both o r) ≡ true → (is_some o ≡ true) × (is_some r ≡ true)
+is_some-both None r h = absurd (grind arith)
+is_some-both (Some z) None h = absurd (grind arith)
+is_some-both (Some z) (Some zs) h = (refl, refl)
 
 -- a line of k numbers is the first line of any text that begins with it
-pub line_lines : (k : ℕ) (l ys : List ℕ) → given (line_values k l) ≡ true → (lines (l ++ ys) ≡ l ∷ lines ys) × (length l ≡ 11 * k + 1)
+pub line_lines : (k : ℕ) (l ys : List ℕ) → is_some (line_values k l) ≡ true → (lines (l ++ ys) ≡ l ∷ lines ys) × (length l ≡ 11 * k + 1)
 line_lines zero [] ys h = absurd (grind arith)
 line_lines zero (b ∷ []) ys h = let e : eqb b 10 ≡ true = grind arith in (rw e, refl)
 line_lines zero (b ∷ c ∷ bs) ys h = absurd (grind (arith, nat_tests))
 line_lines (suc k) l ys h =
-    let g = given_both (field_value (take 11 l)) (line_values k (drop 11 l)) h in
+    let g = is_some-both (field_value (take 11 l)) (line_values k (drop 11 l)) h in
     let f = field_unbroken (take 11 l) g.0 in
     let r = line_lines k (drop 11 l) ys g.1 in
     let j = take-append-drop 11 l in
@@ -111,32 +107,28 @@ glue_lines (b ∷ bs) =
     ]
 
 -- where the text begins with a line of k numbers, that is its first line
-pub cut : (k : ℕ) (xs : List ℕ) → given (line_at k xs) ≡ true → lines xs ≡ take (11 * k + 1) xs ∷ lines (drop (11 * k + 1) xs)
-cut k xs h =
-    ap lines (sym (take-append-drop (11 * k + 1) xs)) ∙ (line_lines k (take (11 * k + 1) xs) (drop (11 * k + 1) xs) h).0
+pub cut : (k : ℕ) (xs : List ℕ) (zs : List ℤ) → line_at k xs ≡ Some zs → lines xs ≡ take (11 * k + 1) xs ∷ lines (drop (11 * k + 1) xs)
+cut k xs zs e =
+    ap lines (sym (take-append-drop (11 * k + 1) xs)) ∙ (line_lines k (take (11 * k + 1) xs) (drop (11 * k + 1) xs) (ap is_some e)).0
 
-none_from : {A : Type 0} (o : Option A) → given o ≡ false → o ≡ None
-none_from None h = refl
-none_from (Some x) h = absurd (grind arith)
-
-cut_by : (k : ℕ) (xs : List ℕ) (ls : List (List ℕ)) → lines xs ≡ ls → given (line_at k xs) ≡ false → line_of k ls ≡ line_at k xs
-cut_by k xs [] e h = sym (none_from (line_at k xs) h)
-cut_by k xs (l ∷ ls) e h =
+cut_none : (k : ℕ) (xs : List ℕ) (ls : List (List ℕ)) → lines xs ≡ ls → line_at k xs ≡ None → line_of k ls ≡ line_at k xs
+cut_none k xs [] e h = sym h
+cut_none k xs (l ∷ ls) e h =
     let x : xs ≡ l ++ glued ls = sym (glue_lines xs) ∙ ap glued e in
-    elim (given (line_values k l)) as (λ t. given (line_values k l) ≡ t → line_values k l ≡ line_at k xs) [
-      | true ↦ λ g. ap (line_values k) (sym (take_at l (glued ls) (11 * k + 1) (line_lines k l [] g).1) ∙ ap (take (11 * k + 1)) (sym x))
-      | false ↦ λ g. none_from (line_values k l) g ∙ sym (none_from (line_at k xs) h)
+    elim (line_values k l) as (λ o. line_values k l ≡ o → o ≡ line_at k xs) [
+      | None ↦ λ g. sym h
+      | Some zs ↦ λ g. sym g ∙ ap (line_values k) (sym (take_at l (glued ls) (11 * k + 1) (line_lines k l [] (ap is_some g)).1) ∙ ap (take (11 * k + 1)) (sym x))
     ] refl
 
 pub cut_line : (k : ℕ) (xs : List ℕ) → line_of k (lines xs) ≡ line_at k xs
 cut_line k xs =
-    elim (given (line_at k xs)) as (λ t. given (line_at k xs) ≡ t → line_of k (lines xs) ≡ line_at k xs) [
-      | true ↦ λ h. ap (line_of k) (cut k xs h)
-      | false ↦ λ h. cut_by k xs (lines xs) refl h
+    elim (line_at k xs) as (λ o. line_at k xs ≡ o → line_of k (lines xs) ≡ o) [
+      | None ↦ λ h. cut_none k xs (lines xs) refl h ∙ h
+      | Some zs ↦ λ h. ap (line_of k) (cut k xs zs h) ∙ h
     ] refl
 
 pub cut_rest : (k : ℕ) (xs : List ℕ) (zs : List ℤ) → line_at k xs ≡ Some zs → drop 1 (lines xs) ≡ lines (drop (11 * k + 1) xs)
-cut_rest k xs zs e = ap (drop 1) (cut k xs (ap given e))
+cut_rest k xs zs e = ap (drop 1) (cut k xs zs e)
 
 rows_zero : (k i b : ℕ) (bs : List ℕ) → rows k zero i (lines (b ∷ bs)) ≡ rows_at k zero i (b ∷ bs)
 rows_zero k i b bs =

@@ -7,7 +7,7 @@ use Rattle.sheet.specs.Lines.{lines}
 use Rattle.sheet.specs.Places.{line_at, rows_at}
 use Rattle.sheet.specs.Sheets.{Parameters, size_at, size_refused, with_column, sized, headed, of_lines}
 use Rattle.sheet.specs.Answers.{Reads}
-use Rattle.sheet.specs.Rows.{numbers_of, rounds_say, Stopped}
+use Rattle.sheet.specs.Rows.{numbers_of, rows_say, Stopped}
 use Rattle.sheet.specs.Forms.{Checked}
 use Rattle.sheet.specs.declared.error.SheetError.{SheetError}
 use Rattle.sheet.specs.declared.error.SheetError.TheVariants.{Refused, Memory}
@@ -42,8 +42,8 @@ accepted n f p zs (Ok ws) h = (record { width = n; full = f; partial = p; column
 accepted n f p zs (Err q) h = absurd (grind arith)
 
 -- what the reader answers where its form is checked and the reading of the rounds stopped
-pub stopped : {F : Type 0} (R : RingOn) (value : F → R.V) (bs : List ℕ) (f : Form) (e : SheetError) → Checked bs f → Stopped (rounds_say f.rounds) e → Reads R value bs (Err e)
+pub stopped : {F : Type 0} (R : RingOn) (value : F → R.V) (bs : List ℕ) (f : Form) (e : SheetError) → Checked bs f → Stopped (rows_say f.rounds) e → Reads R value bs (Err e)
 stopped R value bs f (Refused q) h s = h.says ∙ ap (with_column f.sizes.width f.sizes.rounds_f f.sizes.rounds_p (Some (numbers_of f.column))) s
 stopped R value bs f (Memory a) h s =
-    let m = accepted f.sizes.width f.sizes.rounds_f f.sizes.rounds_p (numbers_of f.column) (rounds_say f.rounds) h.accepted in
+    let m = accepted f.sizes.width f.sizes.rounds_f f.sizes.rounds_p (numbers_of f.column) (rows_say f.rounds) h.accepted in
     (m.0, h.says ∙ m.1)

@@ -1,6 +1,7 @@
 -- A field is blanks, a minus sign or none, and digits.
 use Rattle.std.proofs.Common.{◌≡◌, ℕ, zero, suc, ◌<◌, Bool, true, false, cond, eqb, ◌↔◌, List, [], ◌∷◌, ◌++◌, map, length, replicate, ℤ, pos, neg_ℤ, Some, None, sym, refl, ap, ◌∙◌, arith, eq-eqb}
 use Rattle.std.specs.Int.Digits.{number_from_digits}
+use Rattle.std.proofs.lemmas.Option.{cond_some}
 use Rattle.std.proofs.lemmas.Bool.Decides.{nat_tests}
 use Rattle.sheet.specs.Lines.{is_digit, all_digits, digit_value, digits_value, plain, negated, number_value, text_value, field_value, Written}
 
@@ -22,11 +23,7 @@ record Padded (bs : List ℕ) (z : ℤ) : Type 0 where
 
 digits_are : (bs : List ℕ) (n : ℕ) → digits_value bs ≡ Some n → (0 < length bs) × (all_digits bs ≡ true) × (n ≡ amount bs)
 digits_are [] n e = absurd (grind arith)
-digits_are (b ∷ bs) n e =
-    elim (all_digits (b ∷ bs)) as (λ t. cond t (Some (amount (b ∷ bs))) None ≡ Some n → (0 < suc (length bs)) × (t ≡ true) × (n ≡ amount (b ∷ bs))) [
-      | true ↦ λ h. (omega arith, refl, grind arith)
-      | false ↦ λ h. absurd (grind arith)
-    ] e
+digits_are (b ∷ bs) n e = let c = cond_some (all_digits (b ∷ bs)) (amount (b ∷ bs)) n e in (omega arith, c.0, sym c.1)
 
 number_is : (bs : List ℕ) (z : ℤ) → number_value bs ≡ Some z → Padded bs z
 number_is [] z e = absurd (grind arith)

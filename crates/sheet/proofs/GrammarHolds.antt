@@ -1,13 +1,12 @@
 -- The accepted texts are the sheets that are laid out of fields and lines.
-use Rattle.std.proofs.Common.{◌≡◌, ℕ, zero, suc, ◌+◌, true, eqb, List, [], ◌∷◌, ◌++◌, length, take, drop, ℤ, pos, Some, None, Ok, Err, Result, sym, refl, ap, ◌∙◌, subst, append_assoc, arith}
+use Rattle.std.proofs.Common.{◌≡◌, ℕ, zero, suc, ◌+◌, true, eqb, List, [], ◌∷◌, ◌++◌, length, take, drop, ℤ, pos, is_some, Some, None, Ok, Err, sym, refl, ap, ◌∙◌, subst, append_assoc, arith}
 use Rattle.std.proofs.lemmas.List.{take-append-drop, take_at, drop_at}
 use Rattle.std.proofs.lemmas.Bool.Decides.{nat_tests}
-use Rattle.field.specs.declared.refusal.Refusal.{Refusal}
 use Rattle.sheet.specs.Lines.{field_value, both, line_values, lines}
 use Rattle.sheet.specs.Sheets.{Parameters, and_then, ahead, rows, of_lines}
 use Rattle.sheet.specs.Grammar.{glued, Say, LineSays, LinesSay, SheetSays, GrammarHolds}
 use Rattle.sheet.proofs.Fields.{fields_written}
-use Rattle.sheet.proofs.Cuts.{given, line_lines, glue_lines}
+use Rattle.sheet.proofs.Cuts.{line_lines, glue_lines}
 use Rattle.sheet.proofs.Shapes.{line_length, Opened, opened, closed, shaped}
 use Rattle.field.proofs.Bounds.{not_refused}
 
@@ -79,7 +78,7 @@ lines_say : (k : ℕ) (ls : List (List ℕ)) (rs : List (List ℤ)) → LinesSay
 lines_say k [] [] s = refl
 lines_say k [] (r ∷ rs) s = absurd s
 lines_say k (l ∷ ls) [] s = absurd s
-lines_say k (l ∷ ls) (r ∷ rs) s = (line_lines k l (glued ls) (ap given (line_says k l r s.0 s.1))).0 ∙ ap (λ x. l ∷ x) (lines_say k ls rs s.2)
+lines_say k (l ∷ ls) (r ∷ rs) s = (line_lines k l (glued ls) (ap is_some (line_says k l r s.0 s.1))).0 ∙ ap (λ x. l ∷ x) (lines_say k ls rs s.2)
 
 says_of : (bs : List ℕ) (m : Parameters) (ls : List (List ℕ)) → glued ls ≡ bs → Opened ls m → SheetSays bs m
 says_of bs m [] b o = let f = o.first in absurd (grind arith)
@@ -105,18 +104,15 @@ is_of bs m w =
     let n = m.width in
     let first = line_says 3 w.first (pos n ∷ pos m.full ∷ pos m.partial ∷ []) w.sizes refl in
     let second = line_says n w.second m.column w.columns w.shape.square in
-    let cut : lines bs ≡ w.first ∷ w.second ∷ w.later = ap lines w.text ∙ (line_lines 3 w.first (w.second ++ glued w.later) (ap given first)).0
-    ∙ ap (λ x. w.first ∷ x) ((line_lines n w.second (glued w.later) (ap given second)).0 ∙ ap (λ x. w.second ∷ x) (lines_say n w.later w.rounds w.rows)) in
+    let cut : lines bs ≡ w.first ∷ w.second ∷ w.later = ap lines w.text ∙ (line_lines 3 w.first (w.second ++ glued w.later) (ap is_some first)).0
+    ∙ ap (λ x. w.first ∷ x) ((line_lines n w.second (glued w.later) (ap is_some second)).0 ∙ ap (λ x. w.second ∷ x) (lines_say n w.later w.rounds w.rows)) in
     let later : rows n (m.full + m.partial) 3 w.later ≡ Ok m.constants = ap (λ c. rows n c 3 w.later) (sym w.count) ∙ rows_say n 3 w.later w.rounds w.rows ∙ ap Ok (sym w.elements) in
     ap of_lines cut
     ∙ closed (w.first ∷ w.second ∷ w.later) m (record { first = first; passed = not_refused n m.full m.partial w.shape.sizes; second = second; later = later })
-
-same_ok : (m n : Parameters) → ◌≡◌ {A = Result Parameters Refusal} (Ok m) (Ok n) → m ≡ n
-same_ok m n e = cc
 
 pub grammar_holds : GrammarHolds
 grammar_holds =
     record {
       laid = λ bs m. (λ e. says_of bs m (lines bs) (glue_lines bs) (opened (lines bs) m e), is_of bs m);
-      once = λ bs m n a b. same_ok m n (sym (is_of bs m a) ∙ is_of bs n b);
+      once = λ bs m n a b. let e = sym (is_of bs m a) ∙ is_of bs n b in cc;
     }

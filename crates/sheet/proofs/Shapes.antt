@@ -1,5 +1,6 @@
 -- The lines of a sheet, and its sizes.
-use Rattle.std.proofs.Common.{◌≡◌, ℕ, zero, suc, ◌+◌, ◌*◌, ◌<◌, true, false, cond, ◌&&◌, eqb, List, [], ◌∷◌, ◌++◌, length, take, drop, ℤ, pos, negsuc, Some, None, Ok, Err, Result, sym, refl, ap, ◌∙◌, subst, suc-mul, zero-mul, arith, length-append}
+use Rattle.std.proofs.Common.{◌≡◌, ℕ, zero, suc, ◌+◌, ◌*◌, ◌<◌, ◌&&◌, eqb, List, [], ◌∷◌, ◌++◌, length, take, drop, ℤ, pos, negsuc, Some, None, Ok, Err, Result, sym, refl, ap, ◌∙◌, subst, suc-mul, zero-mul, arith, length-append}
+use Rattle.std.proofs.lemmas.Option.{cond_some}
 use Rattle.field.specs.Sizes.{sizes_refused}
 use Rattle.field.proofs.Bounds.{admitted}
 use Rattle.field.specs.declared.refusal.Refusal.{Refusal}
@@ -8,8 +9,7 @@ use Rattle.sheet.specs.Sheets.{Parameters, WellShaped, natural, size_at, size_re
 
 pub line_length : (k : ℕ) (l : List ℕ) (zs : List ℤ) → line_values k l ≡ Some zs → length zs ≡ k
 line_length zero [] zs e = absurd (grind arith)
-line_length zero (b ∷ bs) zs e =
-    elim (eqb b 10 && eqb (length bs) 0) as (λ t. cond t (Some []) None ≡ Some zs → length zs ≡ 0) [ true ↦ λ h. grind arith | false ↦ λ h. absurd (grind arith) ] e
+line_length zero (b ∷ bs) zs e = ap length (sym (cond_some (eqb b 10 && eqb (length bs) 0) [] zs e).1)
 line_length (suc k) l zs e =
     elim (field_value (take 11 l)) as (λ o. both o (line_values k (drop 11 l)) ≡ Some zs → length zs ≡ suc k) [
       | None ↦ λ h. absurd (grind arith)

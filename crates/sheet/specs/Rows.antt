@@ -3,7 +3,6 @@ use Rattle.std.specs.Prelude.{◌≡◌, List, [], take, ℤ, Some, None, Ok, Er
 use Rattle.field.specs.declared.refusal.Refusal.{Refusal}
 use Rattle.sheet.specs.declared.error.SheetError.{SheetError}
 use Rattle.sheet.specs.declared.error.SheetError.TheVariants.{Refused, Memory}
-use Rattle.sheet.specs.declared.rounds.Rounds.{Rounds}
 use Rattle.sheet.specs.declared.rounds.Rows.{Rows}
 use Rattle.sheet.specs.declared.row.Row.{Row}
 use Rattle.sheet.specs.Places.{rows_at}
@@ -13,13 +12,9 @@ use Rattle.sheet.specs.Sheets.{ahead}
 abbrev pub numbers_of : Row → List ℤ
 numbers_of r = take r.width r.numbers
 
--- what the lines of the rounds say
-abbrev pub rounds_say : Rounds → Result (List ℤ) Refusal
-rounds_say r = rows_at r.width r.count 3 r.bytes.now
-
 -- what the lines that are left say
 abbrev pub rows_say : Rows → Result (List ℤ) Refusal
-rows_say r = rows_at r.width r.left r.line r.bytes.now
+rows_say r = rows_at r.sizes.width r.left r.line r.bytes.now
 
 -- the next of the lines that say all, and what the lines after it say
 abbrev pub NextRow : Result (List ℤ) Refusal → Option (Result Row Refusal) → Result (List ℤ) Refusal → Type 0

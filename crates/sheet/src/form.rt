@@ -3,7 +3,7 @@ ghost use Rattle.sheet.specs.Forms.{Checked};
 ghost use Rattle.sheet.specs.Sheets.{sheet_of};
 
 use crate::line::read_line;
-use crate::rounds::Rounds;
+use crate::rounds::Rows;
 use crate::row::Row;
 use crate::sizes::Sizes;
 use field::refusal::Refusal;
@@ -12,7 +12,7 @@ use field::refusal::Refusal;
 pub(crate) struct Form<'a> {
     pub(crate) sizes: Sizes,
     pub(crate) column: Row,
-    pub(crate) rounds: Rounds<'a>,
+    pub(crate) rounds: Rows<'a>,
 }
 
 // Checks all of `bytes` and needs no memory, so that want of it cannot hide a refusal.
@@ -22,8 +22,8 @@ pub(crate) fn check_form(bytes: &[u8]) -> Result<Form<'_>, Refusal>
     let mut header = [0; 3];
     let body = read_line(bytes, &mut header).ok_or(Refusal::Line(1))?;
     let sizes = Sizes::try_from(header)?;
-    let (column, lines) = Row::read(body, sizes.width).ok_or(Refusal::Line(2))?;
-    let rounds = Rounds::new(lines, sizes);
+    let (column, lines) = Row::read(body, sizes).ok_or(Refusal::Line(2))?;
+    let rounds = Rows::new(lines, sizes);
     rounds.check()?;
     Ok(Form {
         sizes,

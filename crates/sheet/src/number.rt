@@ -7,12 +7,12 @@ pub(crate) const COLUMNS: usize = 11;
 
 // What is left of a field, so few bytes that their digits fit.
 #[derive(Clone, Copy)]
-struct Columns<'a> {
+struct Rest<'a> {
     bytes: &'a [u8],
     ghost short: { length bytes.now ≤ 11 },
 }
 
-impl Columns<'_> {
+impl Rest<'_> {
     // One digit or more.
     #[tactic(auto, using(crate::proofs::Texts::digit_steps))]
     fn digits(self) -> Option<u64>
@@ -39,7 +39,7 @@ impl Columns<'_> {
         ensures { result ≡ number_value self.entry.bytes.now }
     {
         match self.bytes {
-            [b'-', rest @ ..] => Columns { bytes: rest }.digits().map(|n| -(n as i64)),
+            [b'-', rest @ ..] => Rest { bytes: rest }.digits().map(|n| -(n as i64)),
             _ => self.digits().map(|n| n as i64),
         }
     }
@@ -53,5 +53,5 @@ pub(crate) fn read_field(field: &[u8; COLUMNS]) -> Option<i64>
     while let [b' ', more @ ..] = rest {
         rest = more;
     }
-    Columns { bytes: rest }.signed()
+    Rest { bytes: rest }.signed()
 }

@@ -11,46 +11,36 @@ use field::Field;
 use field::refusal::Refusal;
 use std::alloc::{AllocError, Global};
 
-// The lines of the constants, `count` of them with `width` numbers each.
+// Row after row of the lines of the constants: `left` of them, of which the next has the number
+// `line`. A loop takes a copy, so that the lines can be walked twice.
 #[derive(Clone, Copy)]
-pub(crate) struct Rounds<'a> {
+pub(crate) struct Rows<'a> {
     bytes: &'a [u8],
-    width: usize,
-    count: usize,
-    ghost wide: { width ≤ 24 },
-    ghost few: { count ≤ 160 },
+    sizes: Sizes,
+    left: usize,
+    line: usize,
+    ghost few: { left + line ≤ sizes.rounds_f + sizes.rounds_p + 3 },
 }
 
-impl<'a> Rounds<'a> {
-    ghost use Rattle.sheet.specs.Rows.{rounds_say, rows_say, Stopped};
+impl<'a> Rows<'a> {
+    ghost use Rattle.sheet.specs.Rows.{rows_say, Stopped};
 
-    pub(crate) fn new(bytes: &'a [u8], sizes: Sizes) -> Rounds<'a>
-        ensures { rounds_say result ≡ rows_at sizes.width (sizes.rounds_f + sizes.rounds_p) 3 bytes.entry.now }
-    {
-        Rounds {
-            bytes,
-            width: sizes.width,
-            count: sizes.rounds_f + sizes.rounds_p,
-        }
-    }
-
-    // The first of the lines has the number 3.
-    fn rows(self) -> Rows<'a>
-        ensures { rows_say result ≡ rounds_say self.entry }
+    pub(crate) fn new(bytes: &'a [u8], sizes: Sizes) -> Rows<'a>
+        ensures { rows_say result ≡ rows_at sizes.width (sizes.rounds_f + sizes.rounds_p) 3 bytes.entry.now }
     {
         Rows {
-            bytes: self.bytes,
-            width: self.width,
-            left: self.count,
+            bytes,
+            sizes,
+            left: sizes.rounds_f + sizes.rounds_p,
             line: 3,
         }
     }
 
     // Whether these lines and no other follow.
     pub(crate) fn check(self) -> Result<(), Refusal>
-        ensures { MatchResult result (λ _. is_ok (rounds_say self.entry) ≡ true) (λ q. rounds_say self.entry ≡ Err q) }
+        ensures { MatchResult result (λ _. is_ok (rows_say self.entry) ≡ true) (λ q. rows_say self.entry ≡ Err q) }
     {
-        for row in self.rows() {
+        for row in self {
             row?;
         }
         Ok(())
@@ -58,35 +48,15 @@ impl<'a> Rounds<'a> {
 
     // The constants that the lines say.
     pub(crate) fn read<F: Field>(self, heap: Global) -> Result<Vec<F>, SheetError>
-        ensures { MatchResult result (λ v. (zs : List ℤ) × (rounds_say self.entry ≡ Ok zs) × (map F.Ring.value v.items ≡ map (integer F.Ring.ring) zs)) (Stopped (rounds_say self.entry)) }
+        ensures { MatchResult result (λ v. (zs : List ℤ) × (rows_say self.entry ≡ Ok zs) × (map F.Ring.value v.items ≡ map (integer F.Ring.ring) zs)) (Stopped (rows_say self.entry)) }
     {
         let mut constants = Vec::new(heap);
-        for row in self.rows() {
+        for row in self {
             append(&mut constants, row?.as_slice())?;
         }
         Ok(constants)
     }
-}
 
-// Puts the field's elements for `numbers` behind `constants`.
-fn append<F: Field>(constants: &mut Vec<F>, numbers: &[i64]) -> Result<(), AllocError>
-    ensures { OnOk result (map F.Ring.value constants.new.items ≡ map F.Ring.value constants.old.items ++ map (integer F.Ring.ring) numbers.now) }
-{
-    constants.extend(numbers.iter().map(|n| F::from_i64(*n)))
-}
-
-// Row after row of the lines that are left, of which the next has the number `line`.
-#[derive(Drop)]
-struct Rows<'a> {
-    bytes: &'a [u8],
-    width: usize,
-    left: usize,
-    line: usize,
-    ghost wide: { width ≤ 24 },
-    ghost few: { left + line ≤ 163 },
-}
-
-impl Rows<'_> {
     // The refusal of the next line, after which no row comes.
     fn refuse(&mut self) -> Refusal
         ensures refusal { result ≡ Line self.old.line }
@@ -116,7 +86,7 @@ impl Iterator for Rows<'_> {
                 _ => Some(Err(self.refuse())),
             };
         }
-        let Some((row, rest)) = Row::read(self.bytes, self.width) else {
+        let Some((row, rest)) = Row::read(self.bytes, self.sizes) else {
             return Some(Err(self.refuse()));
         };
         self.bytes = rest;
@@ -124,4 +94,11 @@ impl Iterator for Rows<'_> {
         self.line += 1;
         Some(Ok(row))
     }
+}
+
+// Puts the field's elements for `numbers` behind `constants`.
+fn append<F: Field>(constants: &mut Vec<F>, numbers: &[i64]) -> Result<(), AllocError>
+    ensures { OnOk result (map F.Ring.value constants.new.items ≡ map F.Ring.value constants.old.items ++ map (integer F.Ring.ring) numbers.now) }
+{
+    constants.extend(numbers.iter().map(|n| F::from_i64(*n)))
 }

@@ -1,6 +1,6 @@
 ghost use Rattle.std.specs.Prelude.{◌≡◌, Some, MatchResult};
 ghost use Rattle.field.specs.Sizes.{Admitted};
-ghost use Rattle.sheet.specs.Sheets.{natural as nat, size_refused};
+ghost use Rattle.sheet.specs.Sheets.{natural, size_refused};
 
 use field::refusal::Refusal;
 use field::sizes::check_sizes;
@@ -15,8 +15,8 @@ pub(crate) struct Sizes {
 }
 
 // A size; a negative one counts as 0, which no size may be.
-fn natural(n: i64) -> usize
-    ensures { result ≡ nat n }
+fn size(n: i64) -> usize
+    ensures { result ≡ natural n }
 {
     usize::try_from(n).unwrap_or(0)
 }
@@ -30,7 +30,7 @@ impl TryFrom<[i64; 3]> for Sizes {
     ghost try_from_gives = { λ zs r. MatchResult r (SizesOf zs) (λ q. size_refused zs ≡ Some q) };
 
     fn try_from(numbers: [i64; 3]) -> Result<Sizes, Refusal> {
-        let [width, rounds_f, rounds_p] = numbers.map(natural);
+        let [width, rounds_f, rounds_p] = numbers.map(size);
         check_sizes(width, rounds_f, rounds_p)?;
         Ok(Sizes {
             width,

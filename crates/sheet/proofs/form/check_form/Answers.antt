@@ -1,6 +1,6 @@
 use Rattle.std.proofs.Common.{◌≡◌, ◌+◌, ◌*◌, drop, Some, None, ap, ◌∙◌, rules}
 use Rattle.sheet.specs.Places.{line_at}
-use Rattle.sheet.specs.Rows.{numbers_of, rounds_say}
+use Rattle.sheet.specs.Rows.{numbers_of, rows_say}
 use Rattle.sheet.specs.Sheets.{sheet_of, with_column}
 use Rattle.sheet.proofs.Cuts.{later}
 use Rattle.sheet.proofs.Exits.{at_first, at_size, at_body, at_column, at_rounds}
@@ -31,7 +31,7 @@ returns-in_err-column c =
     search rules
 
 -- past the column
-columned : (c : After-new-rounds) → sheet_of c.args.bytes.now ≡ later c.in_ok-body.body.now c.in_ok-sizes.sizes.width c.in_ok-sizes.sizes.rounds_f c.in_ok-sizes.sizes.rounds_p → sheet_of c.args.bytes.now ≡ with_column c.in_ok-sizes.sizes.width c.in_ok-sizes.sizes.rounds_f c.in_ok-sizes.sizes.rounds_p (Some (numbers_of c.in_ok-column.column)) (rounds_say c.new-rounds.result)
+columned : (c : After-new-rounds) → sheet_of c.args.bytes.now ≡ later c.in_ok-body.body.now c.in_ok-sizes.sizes.width c.in_ok-sizes.sizes.rounds_f c.in_ok-sizes.sizes.rounds_p → sheet_of c.args.bytes.now ≡ with_column c.in_ok-sizes.sizes.width c.in_ok-sizes.sizes.rounds_f c.in_ok-sizes.sizes.rounds_p (Some (numbers_of c.in_ok-column.column)) (rows_say c.new-rounds.result)
 columned c e =
     let s = c.in_ok-sizes.sizes in
     let body = c.in_ok-body.body.now in

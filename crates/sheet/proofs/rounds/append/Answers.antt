@@ -18,4 +18,4 @@ returns g c =
     let zs = c.args.numbers.now in
     extended f.value (map (integer f.ring) zs) c.extend.result c.extend.ensures.ran
     (YieldsList-from_map_by _ f.value (integer f.ring) (YieldsList-from_slice zs cc) c.map.ensures.closure (λ x r q k. search rules))
-    (λ xs e h. ap (map f.value) h.0 ∙ map-append f.value was xs ∙ ap (λ l. map f.value was ++ l) e)
+    (λ xs e h. rw h.0 (map-append f.value was xs ∙ ap (λ l. map f.value was ++ l) e))

@@ -3,7 +3,7 @@ use Rattle.std.proofs.lemmas.List.{map-append}
 use Rattle.ring.specs.Rings.{integer}
 use Rattle.sheet.specs.Rows.{numbers_of}
 use Rattle.sheet.proofs.Rows.{row_more}
-use Rattle.sheet.proofs.rounds.Rounds.read.Goals as goal
+use Rattle.sheet.proofs.rounds.Rows.read.Goals as goal
 
 pub loop-row-preserved : goal.loop-row-preserved
 loop-row-preserved g c =
@@ -14,7 +14,7 @@ loop-row-preserved g c =
       tt,
       (
         w.0 ++ row,
-        row_more w.0 _ _ _ _ _ c.in_ok-row.was c.in-Some.ensures.steps w.1,
+        row_more w.0 _ _ c.in_ok-row.was c.in-Some.ensures.steps w.1,
         c.in_ok-append.ensures ∙ ap (λ l. l ++ elements c.as_slice.result.now) w.2 ∙ ap (λ l. elements w.0 ++ elements l) c.as_slice.ensures ∙ sym (map-append (integer g.F.Ring.ring) w.0 row),
       ),
     )
