@@ -19,6 +19,9 @@ where
     Residue<P>: PrimeModulus<P>,
 {
     fn injective_exp_root_n(self) -> Residue<P> {
-        exp_u64(self, u64::from(<Residue<P> as PrimeModulus<P>>::ROOT_EXPONENT))
+        exp_u64(
+            self,
+            u64::from(<Residue<P> as PrimeModulus<P>>::ROOT_EXPONENT),
+        )
     }
 }

@@ -79,6 +79,6 @@ module _ (R : RingOn) where
       none : (x y : V) → add (mul x nil) (mul nil y) ≡ nil
       none x y = simp ring
 
-  -- a zero of its own in the place of u is as good
+  -- a value beside any zero is that value with no u
   pub plain_image : {z : V} → z ≡ nil → (x : V) → plain x ≡ (x, z)
   plain_image e x = λ i. (x, sym e i)

@@ -34,7 +34,7 @@ pub struct Sheet<F> {
 /// The sheet that `bytes` are, or why they are none.
 #[tactic(auto, using(crate::proofs::GrammarHolds::grammar_holds))]
 pub fn read_sheet<F: Field>(heap: Global, bytes: &[u8]) -> Result<Sheet<F>, SheetError>
-    ensures reads { Reads F.Ring.ring F.Ring.value bytes.now result }
+    ensures reads { Reads F.ring F.value bytes.now result }
     ensures shape { IfOk result (λ s. Shaped s.width s.rounds_f s.rounds_p (vec_len s.column) (vec_len s.constants)) }
     ensures grammar { GrammarHolds }
 {

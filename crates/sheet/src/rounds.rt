@@ -48,7 +48,7 @@ impl<'a> Rows<'a> {
 
     // The constants that the lines say.
     pub(crate) fn read<F: Field>(self, heap: Global) -> Result<Vec<F>, SheetError>
-        ensures { MatchResult result (λ v. (zs : List ℤ) × (rows_say self.entry ≡ Ok zs) × (map F.Ring.value v.items ≡ map (integer F.Ring.ring) zs)) (Stopped (rows_say self.entry)) }
+        ensures { MatchResult result (λ v. (zs : List ℤ) × (rows_say self.entry ≡ Ok zs) × (map F.value v.items ≡ map (integer F.ring) zs)) (Stopped (rows_say self.entry)) }
     {
         let mut constants = Vec::new(heap);
         for row in self {
@@ -98,7 +98,7 @@ impl Iterator for Rows<'_> {
 
 // Puts the field's elements for `numbers` behind `constants`.
 fn append<F: Field>(constants: &mut Vec<F>, numbers: &[i64]) -> Result<(), AllocError>
-    ensures { OnOk result (map F.Ring.value constants.new.items ≡ map F.Ring.value constants.old.items ++ map (integer F.Ring.ring) numbers.now) }
+    ensures { OnOk result (map F.value constants.new.items ≡ map F.value constants.old.items ++ map (integer F.ring) numbers.now) }
 {
     constants.extend(numbers.iter().map(|n| F::from_i64(*n)))
 }
