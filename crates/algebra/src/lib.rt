@@ -14,6 +14,9 @@ pub trait Algebra<F: Field>: Ring + From<F> + Add<F, Output = Self> + Mul<F, Out
     // the element as which an element of the field enters
     ghost image: { F → Self };
 
+    // Beside `sum_more`, and so `mixed_dot_product` beside `dot_product`, as in the source crate's family:
+    // one trait over the second factor would need laws of its own, and every caller a longer bound.
+
     /// One product of an element with a field element more.
     fn mixed_sum_more(sum: Self::Sum, element: Self, factor: F) -> Self::Sum
         ensures { Self.total result ≡ Self.ring.add (Self.total sum) (Self.ring.mul (Self.value element) (Self.value (image factor))) };

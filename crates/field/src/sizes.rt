@@ -30,6 +30,7 @@ pub fn check_sizes(width: usize, rounds_f: usize, rounds_p: usize) -> Result<(),
     ensures { MatchResult result (λ _. sizes_refused width rounds_f rounds_p ≡ None) (λ q. sizes_refused width rounds_f rounds_p ≡ Some q) }
 {
     check_width(width)?;
+    // each test with its own refusal: a function for both would need a clause longer than they are
     if !(MIN_ROUNDS_F..=MAX_ROUNDS_F).contains(&rounds_f) {
         return Err(Refusal::FullRounds);
     }

@@ -19,6 +19,7 @@ pub struct Lanes<T> {
     pub d: T,
 }
 
+// For four named parts, as in `pairs` for two: a generic struct cannot hold an array of a type parameter.
 impl<T: Copy> Lanes<T> {
     // One element in every lane.
     fn splat(x: T) -> Lanes<T>

@@ -18,6 +18,7 @@ pub struct Pair<T> {
     pub b: T,
 }
 
+// For two named parts, as in `lanes` for four: a generic struct cannot hold an array of a type parameter.
 impl<T: Copy> Pair<T> {
     // What the step makes of each part alone.
     fn map<U, S: Fn(T) -> U>(self, step: S) -> Pair<U>
@@ -103,10 +104,7 @@ impl<F: Field> Ring for Pair<F> {
     }
 
     fn one() -> Pair<F> {
-        Pair {
-            a: F::one(),
-            b: F::zero(),
-        }
+        Pair::from(F::one())
     }
 
     type Sum = Pair<F::Sum>;
@@ -205,7 +203,8 @@ impl<F: Field> Algebra<F> for Pair<F> {
     ghost mul_base_law = { λ x y r h. h ∙ ap ((twos F.ring).mul (parts F.value x)) (plain_image F.ring F.zero_law (F.value y)) };
 }
 
-// The power of pairs. Two pairs may have one power, so pairs have no root.
+// The exponent is that of the parts, as in `lanes`; an impl for every algebra would leave nobody an S-box of their own.
+// Two pairs may have one power, so pairs have no root.
 impl<F: Field + InjectiveMonomial> InjectiveMonomial for Pair<F> {
     const D: u8 = F::D;
 

@@ -20,6 +20,7 @@ mod row;
 mod sizes;
 
 /// The parameters of a permutation.
+// `read_sheet` promises their shape; an invariant would ask more of whoever makes a sheet.
 #[derive(Drop)]
 pub struct Sheet<F> {
     pub width: usize,

@@ -6,6 +6,7 @@ use crate::sizes::Sizes;
 use field::sizes::MAX_WIDTH;
 
 // The numbers of a line, `width` of them in the first places; they need no memory.
+// A line fills a slice of known length; an `ArrayVec` would be filled by pushes, each with a bound to show.
 #[derive(Clone, Copy)]
 pub(crate) struct Row {
     numbers: [i64; MAX_WIDTH],
