@@ -19,7 +19,7 @@ pub struct Lanes<T> {
     pub d: T,
 }
 
-// For four named parts, as in `pairs` for two: a generic struct cannot hold an array of a type parameter.
+// For four named parts, as in `pairs` for two: of an array of a type parameter every caller would owe that it fits in memory.
 impl<T: Copy> Lanes<T> {
     // One element in every lane.
     fn splat(x: T) -> Lanes<T>

@@ -18,7 +18,7 @@ pub struct Pair<T> {
     pub b: T,
 }
 
-// For two named parts, as in `lanes` for four: a generic struct cannot hold an array of a type parameter.
+// For two named parts, as in `lanes` for four: of an array of a type parameter every caller would owe that it fits in memory.
 impl<T: Copy> Pair<T> {
     // What the step makes of each part alone.
     fn map<U, S: Fn(T) -> U>(self, step: S) -> Pair<U>

@@ -87,7 +87,7 @@ impl FromStr for Over {
     }
 }
 
-//// Why a line is no case.
+/// Why a line is no case.
 #[derive(Debug, Drop, Error)]
 pub enum CaseError {
     #[error("no case")]
