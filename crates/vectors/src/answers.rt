@@ -6,7 +6,7 @@ use pairs::Pair;
 use std::alloc::{AllocError, Global};
 
 /// What the library answers, residue by residue; nothing where the numbers given do not fit the kind.
-pub fn answer<F: InverseField + PermutationMonomial + Into<u32>>(
+pub(crate) fn answer<F: InverseField + PermutationMonomial + Into<u32>>(
     heap: Global,
     kind: Kind,
     given: &[i64],

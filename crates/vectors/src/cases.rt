@@ -5,7 +5,7 @@ use thiserror::Error;
 
 /// What is asked of a field.
 #[derive(Clone, Copy, PartialEq, Eq, PartialOrd, Ord)]
-pub enum Kind {
+pub(crate) enum Kind {
     From,
     Product,
     Inverse,
@@ -18,7 +18,7 @@ pub enum Kind {
 }
 
 /// All of them, in the order in which they are told.
-pub const KINDS: [Kind; 9] = [
+pub(crate) const KINDS: [Kind; 9] = [
     Kind::From,
     Kind::Product,
     Kind::Inverse,
@@ -67,7 +67,7 @@ impl FromStr for Kind {
 
 /// The fields that are asked.
 #[derive(Clone, Copy)]
-pub enum Over {
+pub(crate) enum Over {
     F17,
     KoalaBear,
     BabyBear,
@@ -89,7 +89,7 @@ impl FromStr for Over {
 
 /// Why a line is no case.
 #[derive(Debug, Drop, Error)]
-pub enum CaseError {
+pub(crate) enum CaseError {
     #[error("no case")]
     Form,
     #[error("memory is wanting")]
@@ -98,15 +98,15 @@ pub enum CaseError {
 
 /// A line such as `product 17 3 7 = 4`; an inverse that is absent has nothing behind the sign.
 #[derive(Drop)]
-pub struct Case {
-    pub kind: Kind,
-    pub over: Over,
-    pub given: Vec<i64>,
-    pub answer: Vec<u32>,
+pub(crate) struct Case {
+    pub(crate) kind: Kind,
+    pub(crate) over: Over,
+    pub(crate) given: Vec<i64>,
+    pub(crate) answer: Vec<u32>,
 }
 
 impl Case {
-    pub fn read(heap: Global, line: &str) -> Result<Case, CaseError> {
+    pub(crate) fn read(heap: Global, line: &str) -> Result<Case, CaseError> {
         let (asked, answered) = line.split_once('=').ok_or(CaseError::Form)?;
         let mut words = asked.split_whitespace();
         let kind = words.next().ok_or(CaseError::Form)?.parse::<Kind>()?;
