@@ -21,10 +21,12 @@ pub trait Ring: Copy
     // the element that `zero` answers
     ghost zero: { Self };
 
+    /// The element that means zero.
     fn zero() -> Self
         ensures element { result ≡ zero }
         ensures nil { value result ≡ ring.nil };
 
+    /// The element that means one.
     fn one() -> Self
         ensures { value result ≡ ring.one };
 
@@ -33,6 +35,7 @@ pub trait Ring: Copy
 
     ghost total: { Self.Sum → ring.V };
 
+    /// The sum of no products.
     fn sum_none() -> Self::Sum
         ensures { total result ≡ ring.nil };
 
