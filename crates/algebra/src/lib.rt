@@ -25,7 +25,8 @@ pub trait Algebra<F: Field>: Ring + From<F> + Add<F, Output = Self> + Mul<F, Out
     fn mixed_dot_product(elements: &[Self], factors: &[F]) -> Self
         ensures { Self.value result ≡ dot Self.ring (map Self.value elements.now) (map (λ x. Self.value (image x)) factors.now) }
     {
-        let pairs = elements.iter().zip(factors);
+        let count = elements.len().min(factors.len());
+        let pairs = elements[..count].iter().zip(&factors[..count]);
         let sum = pairs.fold(Self::sum_none(), |sum, (x, y)| {
             Self::mixed_sum_more(sum, *x, *y)
         });
@@ -52,6 +53,11 @@ impl<F: Field> Algebra<F> for F {
 
     fn mixed_sum_more(sum: F::Sum, element: F, factor: F) -> F::Sum {
         F::sum_more(sum, element, factor)
+    }
+
+    // a field may have a faster one than the sum of its steps
+    fn mixed_dot_product(elements: &[F], factors: &[F]) -> F {
+        F::dot_product(elements, factors)
     }
 
     ghost base = { (λ v. v, record { at_nil = refl; at_one = refl; at_add = λ x y. refl; at_mul = λ x y. refl }, λ x. refl) };

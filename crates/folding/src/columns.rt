@@ -6,6 +6,9 @@ use field::refusal::Refusal;
 use field::residue::Residue;
 use std::alloc::{AllocError, Global};
 
+// How many columns a number has.
+const COLUMNS: usize = 11;
+
 /// The text of residues in rows of `width`, each right-justified in 11 columns.
 /// Only a full row ends with a line feed, so none does at width 0.
 #[tactic(auto, using(crate::proofs::Pads::columns_read))]
@@ -17,7 +20,10 @@ pub fn rows_text<const P: u32>(
     ensures rows { IfOk result (λ text. string_bytes text ≡ rows_of width 0 (map (λ x. x.value) elements.now)) }
     ensures columns { ColumnsRead }
 {
-    let mut text = String::new(heap);
+    // as much as is written: the numbers, and a line feed for each full row
+    let ends = elements.len().checked_div(width).unwrap_or(0);
+    let bytes = elements.len().saturating_mul(COLUMNS).saturating_add(ends);
+    let mut text = String::with_capacity(heap, bytes)?;
     for (k, element) in elements.iter().enumerate() {
         write!(text, "{:>11}", element.as_canonical_u32())?;
         if (k + 1).is_multiple_of(width) {

@@ -51,7 +51,8 @@ pub trait Ring: Copy
     fn dot_product(left: &[Self], right: &[Self]) -> Self
         ensures { value result ≡ dot ring (map value left.now) (map value right.now) }
     {
-        let pairs = left.iter().zip(right);
+        let count = left.len().min(right.len());
+        let pairs = left[..count].iter().zip(&right[..count]);
         let sum = pairs.fold(Self::sum_none(), |sum, (x, y)| Self::sum_more(sum, *x, *y));
         Self::sum_done(sum)
     }

@@ -50,7 +50,7 @@ pub fn read_sheet<F: Field>(heap: Global, bytes: &[u8]) -> Result<Sheet<F>, Shee
         rounds_p,
     } = sizes;
     // from here on only memory can be wanting
-    let column = column.as_slice().to_vec(heap)?;
+    let column = column.numbers[..column.width].to_vec(heap)?;
     let constants = rounds.read(heap)?;
     Ok(Sheet {
         width,

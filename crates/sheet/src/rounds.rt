@@ -50,7 +50,7 @@ impl<'a> Rows<'a> {
     pub(crate) fn read<F: Field>(self, heap: Global) -> Result<Vec<F>, SheetError>
         ensures { MatchResult result (λ v. (zs : List ℤ) × (rows_say self.entry ≡ Ok zs) × (map F.value v.items ≡ map (integer F.ring) zs)) (Stopped (rows_say self.entry)) }
     {
-        let mut constants = Vec::new(heap);
+        let mut constants = Vec::with_capacity(heap, self.left * self.sizes.width)?;
         for row in self {
             append(&mut constants, row?.as_slice())?;
         }

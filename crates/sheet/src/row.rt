@@ -9,8 +9,8 @@ use field::sizes::MAX_WIDTH;
 // A line fills a slice of known length; an `ArrayVec` would be filled by pushes, each with a bound to show.
 #[derive(Clone, Copy)]
 pub(crate) struct Row {
-    numbers: [i64; MAX_WIDTH],
-    width: usize,
+    pub(crate) numbers: [i64; MAX_WIDTH],
+    pub(crate) width: usize,
     ghost fits: { width ≤ length numbers },
 }
 

@@ -11,25 +11,34 @@ pub(crate) fn answer<F: InverseField + PermutationMonomial + Into<u32>>(
     kind: Kind,
     given: &[i64],
 ) -> Result<Option<Vec<u32>>, AllocError> {
-    let given = elements::<F>(heap, given)?;
-    Ok(Some(match (kind, given.as_slice()) {
-        (Kind::From, [x]) => vec![in heap; (*x).into()]?,
-        (Kind::Product, [x, y]) => vec![in heap; (*x * *y).into()]?,
-        (Kind::Inverse, [x]) => x.inverse().into_iter().map(F::into).collect(heap)?,
-        (Kind::Power, [x]) => vec![in heap; x.injective_exp_n().into()]?,
-        (Kind::Root, [x]) => vec![in heap; x.injective_exp_root_n().into()]?,
-        (Kind::PowerLanes, [a, b, c, d]) => four(heap, lanes(*a, *b, *c, *d).injective_exp_n())?,
-        (Kind::RootLanes, [a, b, c, d]) => {
-            four(heap, lanes(*a, *b, *c, *d).injective_exp_root_n())?
-        }
-        (Kind::PowerPair, [a, b]) => {
-            let Pair { a, b } = Pair { a: *a, b: *b }.injective_exp_n();
-            vec![in heap; a.into(), b.into()]?
-        }
+    Ok(Some(match (kind, given) {
         (Kind::Dot, all) => {
+            let all = elements::<F>(heap, all)?;
             let (left, right) = all.split_at(all.len() / 2);
             vec![in heap; F::dot_product(left, right).into()]?
         }
+        (Kind::PowerLanes, [a, b, c, d]) => {
+            four(heap, lanes::<F>(*a, *b, *c, *d).injective_exp_n())?
+        }
+        (Kind::RootLanes, [a, b, c, d]) => {
+            four(heap, lanes::<F>(*a, *b, *c, *d).injective_exp_root_n())?
+        }
+        (Kind::PowerPair, [a, b]) => {
+            let a = F::from_i64(*a);
+            let b = F::from_i64(*b);
+            let Pair { a, b } = Pair { a, b }.injective_exp_n();
+            vec![in heap; a.into(), b.into()]?
+        }
+        (Kind::PowerLanes | Kind::RootLanes | Kind::PowerPair, _) => return Ok(None),
+        // of every other kind two numbers ask for their product
+        (_, [x, y]) => vec![in heap; (F::from_i64(*x) * F::from_i64(*y)).into()]?,
+        (Kind::Inverse, [x]) => {
+            let found = F::from_i64(*x).inverse();
+            found.into_iter().map(F::into).collect(heap)?
+        }
+        (Kind::Power, [x]) => vec![in heap; F::from_i64(*x).injective_exp_n().into()]?,
+        (Kind::Root, [x]) => vec![in heap; F::from_i64(*x).injective_exp_root_n().into()]?,
+        (_, [x]) => vec![in heap; F::from_i64(*x).into()]?,
         _ => return Ok(None),
     }))
 }
@@ -39,8 +48,13 @@ fn four<F: Into<u32>>(heap: Global, x: Lanes<F>) -> Result<Vec<u32>, AllocError>
     Ok(vec![in heap; a.into(), b.into(), c.into(), d.into()]?)
 }
 
-fn lanes<F>(a: F, b: F, c: F, d: F) -> Lanes<F> {
-    Lanes { a, b, c, d }
+fn lanes<F: Field>(a: i64, b: i64, c: i64, d: i64) -> Lanes<F> {
+    Lanes {
+        a: F::from_i64(a),
+        b: F::from_i64(b),
+        c: F::from_i64(c),
+        d: F::from_i64(d),
+    }
 }
 
 fn elements<F: Field>(heap: Global, numbers: &[i64]) -> Result<Vec<F>, AllocError> {

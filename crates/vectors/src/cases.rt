@@ -1,6 +1,6 @@
 use std::alloc::{AllocError, Global};
 use std::fmt;
-use std::str::{FromStr, SplitWhitespace};
+use std::str::FromStr;
 use thiserror::Error;
 
 /// What is asked of a field.
@@ -73,15 +73,15 @@ pub(crate) enum Over {
     BabyBear,
 }
 
-impl FromStr for Over {
-    type Err = CaseError;
+impl TryFrom<i64> for Over {
+    type Error = CaseError;
 
     // By the modulus.
-    fn from_str(word: &str) -> Result<Over, CaseError> {
-        match word {
-            "17" => Ok(Over::F17),
-            "2130706433" => Ok(Over::KoalaBear),
-            "2013265921" => Ok(Over::BabyBear),
+    fn try_from(modulus: i64) -> Result<Over, CaseError> {
+        match modulus {
+            17 => Ok(Over::F17),
+            2130706433 => Ok(Over::KoalaBear),
+            2013265921 => Ok(Over::BabyBear),
             _ => Err(CaseError::Form),
         }
     }
@@ -102,30 +102,33 @@ pub(crate) struct Case {
     pub(crate) kind: Kind,
     pub(crate) over: Over,
     pub(crate) given: Vec<i64>,
-    pub(crate) answer: Vec<u32>,
+    pub(crate) answer: Vec<i64>,
 }
 
 impl Case {
+    // The words may come in any order: of the kinds the last counts, and `from` where there is none; the
+    // first number other than zero is the modulus. Words that are no kind, sign or number are passed over,
+    // so numbers are pushed, and not collected to the first word that is none.
     pub(crate) fn read(heap: Global, line: &str) -> Result<Case, CaseError> {
-        let (asked, answered) = line.split_once('=').ok_or(CaseError::Form)?;
-        let mut words = asked.split_whitespace();
-        let kind = words.next().ok_or(CaseError::Form)?.parse::<Kind>()?;
-        let over = words.next().ok_or(CaseError::Form)?.parse::<Over>()?;
+        let mut kind = Kind::From;
+        let mut modulus = 0;
+        let mut given = Vec::new(heap);
+        // the numbers behind the sign, once it has come
+        let mut answer: Option<Vec<i64>> = None;
+        for word in line.split_whitespace() {
+            match (word.parse::<i64>(), &mut answer) {
+                (Ok(n), Some(answer)) => answer.push(n)?,
+                (Ok(n), None) if modulus == 0 => modulus = n,
+                (Ok(n), None) => given.push(n)?,
+                (Err(_), None) if word == "=" => answer = Some(Vec::new(heap)),
+                (Err(_), _) => kind = word.parse().unwrap_or(kind),
+            }
+        }
         Ok(Case {
             kind,
-            over,
-            given: numbers(heap, words)?,
-            answer: numbers(heap, answered.split_whitespace())?,
+            over: Over::try_from(modulus)?,
+            given,
+            answer: answer.unwrap_or(Vec::new(heap)),
         })
     }
-}
-
-// The numbers that the words are, to the last of them.
-fn numbers<T: FromStr + Drop>(heap: Global, words: SplitWhitespace<'_>) -> Result<Vec<T>, CaseError>
-where
-    T::Err: Drop,
-{
-    words
-        .map(|word| word.parse::<T>().map_err(|_| CaseError::Form))
-        .try_collect(heap)
 }

@@ -49,5 +49,13 @@ fn replay(heap: Global, line: &str) -> Result<Option<Kind>, AllocError> {
         Over::KoalaBear => answer::<KoalaBear>(heap, kind, given)?,
         Over::BabyBear => answer::<BabyBear>(heap, kind, given)?,
     };
-    Ok((found == Some(stored)).then_some(kind))
+    // where nothing is answered, nothing may be stored
+    let agrees = match found {
+        Some(found) => found
+            .iter()
+            .map(|n| i64::from(*n))
+            .eq(stored.iter().copied()),
+        None => stored.is_empty(),
+    };
+    Ok(agrees.then_some(kind))
 }

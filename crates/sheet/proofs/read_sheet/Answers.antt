@@ -30,6 +30,6 @@ returns-clause-shape g c =
     let w = shaped (lines c.args.bytes.now) m (opened (lines c.args.bytes.now) m e) in
     record {
       sizes = s.admitted;
-      square = c.in_ok-column.ensures.len ∙ ap length c.as_slice.ensures ∙ w.square;
+      square = c.in_ok-column.ensures.len ∙ w.square;
       rounds = c.in_ok-constants.constants.ok.0 ∙ sym (length-map _ g.F.Ring.value) ∙ ap length k.2 ∙ length-map k.0 (integer g.F.Ring.ring) ∙ w.rounds;
     }

@@ -1,11 +1,16 @@
-use Rattle.std.proofs.Common.{rules, ◌∙◌}
+use Rattle.std.proofs.Common.{rules, ◌∙◌, take, arith}
 use Rattle.std.proofs.lemmas.Iterator.{YieldsList-from_slice, YieldsList-from_zip}
-use Rattle.ring.proofs.Dots.{dot_from_fold}
+use Rattle.ring.proofs.Dots.{dot_all, dot_from_fold}
 use Rattle.algebra.proofs.Algebra.mixed_dot_product.Goals as goal
 
 pub returns : goal.returns
 returns g c =
+    let R = g.Self.Ring.ring in
     let v = g.Self.Ring.value in
-    let pairs = YieldsList-from_zip {s = c.zip-pairs.result} (YieldsList-from_slice c.args.elements.now (cc)) (YieldsList-from_slice c.args.factors.now (cc)) in
+    let n = c.min-count.result in
+    let xs = take n c.args.elements.now in
+    let ys = take n c.args.factors.now in
+    let pairs = YieldsList-from_zip {s = c.zip-pairs.result} (YieldsList-from_slice xs (search rules)) (YieldsList-from_slice ys (search rules)) in
     c.sum_done.ensures
-    ∙ dot_from_fold g.Self.Ring.ring v (λ x. v (g.Self.Algebra.image x)) c.args.elements.now c.args.factors.now _ _ g.Self.Ring.total _ _ pairs c.fold-sum.ensures.ran c.sum_none.ensures (λ a b x f k. search rules)
+    ∙ dot_from_fold R v (λ x. v (g.Self.Algebra.image x)) xs ys _ _ g.Self.Ring.total _ _ pairs c.fold-sum.ensures.ran c.sum_none.ensures (λ a b x f k. search rules)
+    ∙ dot_all R v (λ x. v (g.Self.Algebra.image x)) n c.args.elements.now c.args.factors.now (λ k a b. omega arith)
