@@ -25,6 +25,7 @@ pub trait Algebra<F: Field>: Ring + From<F> + Add<F, Output = Self> + Mul<F, Out
     fn mixed_dot_product(elements: &[Self], factors: &[F]) -> Self
         ensures { Self.value result ≡ dot Self.ring (map Self.value elements.now) (map (λ x. Self.value (image x)) factors.now) }
     {
+        // cut to one length, as in `dot_product`
         let count = elements.len().min(factors.len());
         let pairs = elements[..count].iter().zip(&factors[..count]);
         let sum = pairs.fold(Self::sum_none(), |sum, (x, y)| {

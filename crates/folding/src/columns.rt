@@ -6,7 +6,7 @@ use field::refusal::Refusal;
 use field::residue::Residue;
 use std::alloc::{AllocError, Global};
 
-// How many columns a number has.
+// How many columns a number has, in the formats below too.
 const COLUMNS: usize = 11;
 
 /// The text of residues in rows of `width`, each right-justified in 11 columns.

@@ -51,6 +51,7 @@ pub trait Ring: Copy
     fn dot_product(left: &[Self], right: &[Self]) -> Self
         ensures { value result ≡ dot ring (map value left.now) (map value right.now) }
     {
+        // cut to one length: a walk over two lists that may end apart tests both ends at each step
         let count = left.len().min(right.len());
         let pairs = left[..count].iter().zip(&right[..count]);
         let sum = pairs.fold(Self::sum_none(), |sum, (x, y)| Self::sum_more(sum, *x, *y));

@@ -18,27 +18,30 @@ pub(crate) fn answer<F: InverseField + PermutationMonomial + Into<u32>>(
             vec![in heap; F::dot_product(left, right).into()]?
         }
         (Kind::PowerLanes, [a, b, c, d]) => {
-            four(heap, lanes::<F>(*a, *b, *c, *d).injective_exp_n())?
+            let x = lanes::<F>(element(a), element(b), element(c), element(d));
+            four(heap, x.injective_exp_n())?
         }
         (Kind::RootLanes, [a, b, c, d]) => {
-            four(heap, lanes::<F>(*a, *b, *c, *d).injective_exp_root_n())?
+            let x = lanes::<F>(element(a), element(b), element(c), element(d));
+            four(heap, x.injective_exp_root_n())?
         }
         (Kind::PowerPair, [a, b]) => {
-            let a = F::from_i64(*a);
-            let b = F::from_i64(*b);
+            let a = element::<F>(a);
+            let b = element::<F>(b);
             let Pair { a, b } = Pair { a, b }.injective_exp_n();
             vec![in heap; a.into(), b.into()]?
         }
-        (Kind::PowerLanes | Kind::RootLanes | Kind::PowerPair, _) => return Ok(None),
-        // of every other kind two numbers ask for their product
-        (_, [x, y]) => vec![in heap; (F::from_i64(*x) * F::from_i64(*y)).into()]?,
         (Kind::Inverse, [x]) => {
-            let found = F::from_i64(*x).inverse();
+            let found = element::<F>(x).inverse();
             found.into_iter().map(F::into).collect(heap)?
         }
-        (Kind::Power, [x]) => vec![in heap; F::from_i64(*x).injective_exp_n().into()]?,
-        (Kind::Root, [x]) => vec![in heap; F::from_i64(*x).injective_exp_root_n().into()]?,
-        (_, [x]) => vec![in heap; F::from_i64(*x).into()]?,
+        (Kind::Power, [x]) => vec![in heap; element::<F>(x).injective_exp_n().into()]?,
+        (Kind::Root, [x]) => vec![in heap; element::<F>(x).injective_exp_root_n().into()]?,
+        (Kind::From | Kind::Product, [x]) => vec![in heap; element::<F>(x).into()]?,
+        // whichever of these is asked, two numbers are multiplied
+        (Kind::From | Kind::Product | Kind::Inverse | Kind::Power | Kind::Root, [x, y]) => {
+            vec![in heap; (element::<F>(x) * element::<F>(y)).into()]?
+        }
         _ => return Ok(None),
     }))
 }
@@ -48,15 +51,14 @@ fn four<F: Into<u32>>(heap: Global, x: Lanes<F>) -> Result<Vec<u32>, AllocError>
     Ok(vec![in heap; a.into(), b.into(), c.into(), d.into()]?)
 }
 
-fn lanes<F: Field>(a: i64, b: i64, c: i64, d: i64) -> Lanes<F> {
-    Lanes {
-        a: F::from_i64(a),
-        b: F::from_i64(b),
-        c: F::from_i64(c),
-        d: F::from_i64(d),
-    }
+fn lanes<F>(a: F, b: F, c: F, d: F) -> Lanes<F> {
+    Lanes { a, b, c, d }
 }
 
 fn elements<F: Field>(heap: Global, numbers: &[i64]) -> Result<Vec<F>, AllocError> {
-    numbers.iter().map(|n| F::from_i64(*n)).collect(heap)
+    numbers.iter().map(|n| element::<F>(n)).collect(heap)
+}
+
+fn element<F: Field>(n: &i64) -> F {
+    F::from_i64(*n)
 }
