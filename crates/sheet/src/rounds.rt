@@ -52,7 +52,7 @@ impl<'a> Rows<'a> {
     {
         let mut constants = Vec::with_capacity(heap, self.left * self.sizes.width)?;
         for row in self {
-            // borrowed: a row is some 200 bytes, and to move it out by `?` was a tenth of the time
+            // borrowed: a row is some 200 bytes, which `?` would move
             match &row {
                 Ok(row) => append(&mut constants, row.as_slice())?,
                 Err(refusal) => return Err(SheetError::from(*refusal)),

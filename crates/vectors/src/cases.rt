@@ -56,7 +56,7 @@ impl fmt::Display for Kind {
 impl FromStr for Kind {
     type Err = CaseError;
 
-    // By a `match` of its own: over the names of KINDS a word that is none took three times as long.
+    // By a `match` of its own: a search through the names of KINDS took twice as long for a word that is none.
     fn from_str(word: &str) -> Result<Kind, CaseError> {
         match word {
             "from" => Ok(Kind::From),
